@@ -1,1 +1,6 @@
 pub mod Truth
+pub mod Settings
+pub mod Distinct
+pub mod Parts
+pub mod Steps
+pub mod Cards

@@ -1,0 +1,38 @@
+-- Parts of functions. A part is the function of a row of a reduced decision diagram.
+use mathlib.Core.Bool.{Bool, _||_, false, not}
+use mathlib.Core.List.{List, [], _++_, _∷_}
+use Prim.Native.Nat.{ℕ}
+use lib.ListN.{length}
+use Rattle.truth.specs.Distinct.{distinct, filter}
+use Rattle.truth.specs.Truth.{Truth, invert, leaf, node, same?}
+
+-- "Fix inputs 1 to k-1 of a function to some values.": what is left, for every k and all values (the cofactors).
+unfoldable pub cofactors : Truth → List Truth
+cofactors (leaf b) = leaf b ∷ []
+cofactors (node f g) = node f g ∷ (cofactors f ++ cofactors g)
+
+-- "if it depends on input k": whether a function depends on the next input.
+unfoldable pub depends? : Truth → Bool
+depends? (leaf b) = false
+depends? (node f g) = not (same? f g)
+
+-- "What is left is a part at k if it depends on input k."
+unfoldable pub parts : Truth → List Truth
+parts f = filter depends? (cofactors f)
+
+-- "Two parts at the same k are the same if they are equal or inverse to each other." (At different k they have different depths.)
+unfoldable pub alike? : Truth → Truth → Bool
+alike? f g = same? f g || same? f (invert g)
+
+-- "The size of a function is the number of its distinct parts."
+unfoldable pub size : Truth → ℕ
+size f = length (distinct alike? (parts f))
+
+-- The parts of each of some functions.
+unfoldable pub allParts : List Truth → List Truth
+allParts [] = []
+allParts (f ∷ fs) = parts f ++ allParts fs
+
+-- "Functions together count a shared part once."
+unfoldable pub together : List Truth → ℕ
+together fs = length (distinct alike? (allParts fs))
