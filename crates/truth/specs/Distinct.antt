@@ -7,7 +7,7 @@ use mathlib.Core.Path.{_≡_}
 pub record Sameness {A : Type 0} (same : A → A → Bool) : Type 0 where
   pub reflexive : (x : A) → same x x ≡ true
   pub symmetric : (x y : A) → same x y ≡ same y x
-  pub transitive : (x y z : A) → same x y ≡ true → same x z ≡ same y z
+  pub congruent : (x y z : A) → same x y ≡ true → same x z ≡ same y z
 
 -- The members that pass a test, in order.
 unfoldable pub filter : {A : Type 0} → (A → Bool) → List A → List A

@@ -1,0 +1,9 @@
+pub mod Booleans
+pub mod Values
+pub mod Equality
+pub mod Distinct
+pub mod Parts
+pub mod Together
+pub mod Steps
+pub mod Order
+pub mod Cards
