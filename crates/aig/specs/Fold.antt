@@ -1,0 +1,26 @@
+-- What an AND of two literals comes to before any vertex is looked for.
+use Prim.Native.Nat.{ℕ, _<_, _≤_}
+use Rattle.aig.specs.Literal.{lit, negate}
+use Rattle.aig.specs.declared.fold.Folded.{Folded}
+use Rattle.aig.specs.declared.fold.Folded.the-variants.{Pair, To}
+use lib.Dec.{eqb, ltb}
+use mathlib.Core.Bool.{cond}
+use mathlib.Core.Path.{_≡_}
+
+-- "Folded: equal operands give that operand, an operand and its inversion give false, an operand false gives false, an operand true gives the
+-- other operand. Otherwise the lower reference stands first."
+unfoldable pub foldOf : ℕ → ℕ → Folded
+foldOf p q =
+    cond (eqb p q) (To (lit p))
+    (cond (eqb (negate p) q) (To (lit 0))
+    (cond (eqb p 0) (To (lit 0))
+    (cond (eqb q 0) (To (lit 0))
+    (cond (eqb p 1) (To (lit q))
+    (cond (eqb q 1) (To (lit p))
+    (cond (ltb p q) (Pair (lit p) (lit q)) (Pair (lit q) (lit p))))))))
+
+-- A pair that does not fold: the lower literal first, none constant, not inverse to each other.
+pub record Unfolded (p q : ℕ) : Type 0 where
+  pub ordered : p < q
+  pub unfixed : 2 ≤ p
+  pub independent : negate p ≡ q → ⊥
