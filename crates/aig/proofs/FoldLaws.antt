@@ -18,10 +18,11 @@ test : (P : Folded → Type 0) (b : Bool) {x y : Folded} → (b ≡ true → P x
 test P true yes-way no-way = yes-way refl
 test P false yes-way no-way = no-way refl
 
--- What no rule folds, in order and out of order.
+-- A pair in order that passes the tests does not fold.
 pub unfolded : (p q : ℕ) → (p ≡ 0 → ⊥) → (p ≡ 1 → ⊥) → (negate p ≡ q → ⊥) → p < q → Unfolded p q
 unfolded p q p≢0 p≢1 apart lt = record { ordered = lt; unfixed = omega arith; independent = apart }
 
+-- A pair out of order that passes the tests does not fold.
 pub unfolded-swapped : (p q : ℕ) → (p ≡ q → ⊥) → (q ≡ 0 → ⊥) → (q ≡ 1 → ⊥) → (negate p ≡ q → ⊥) → q ≤ p → Unfolded q p
 unfolded-swapped p q p≢q q≢0 q≢1 apart le = unfolded q p q≢0 q≢1 (λ e. apart (negate-swap q p e)) (omega arith)
 

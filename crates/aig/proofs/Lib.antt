@@ -1,3 +1,6 @@
+pub mod FirstVertexLaws
 pub mod FoldLaws
+pub mod IndexLaws
 pub mod LiteralLaws
 pub mod ValuesLaws
+mod WalkLaws

@@ -75,10 +75,11 @@ module _ {A : Type 0} {Good : A → Type 0} {invert : A → A} {both : A → A �
       go false g = refl
 
   module _ (constant : getD vs 0 falsum ≡ falsum) where
-    -- "So 0 is false and 1 is true."
+    -- Literal 0 is false.
     pub value-false : literalValue invert both falsum vs 0 ≡ falsum
     value-false = constant
 
+    -- Literal 1 is true.
     pub value-true : literalValue invert both falsum vs 1 ≡ invert falsum
     value-true = ap invert constant
 

@@ -1,8 +1,8 @@
 -- What an AND of two literals comes to before any vertex is looked for.
 use Prim.Native.Nat.{ℕ, _<_, _≤_}
 use Rattle.aig.specs.Literal.{lit, negate}
-use Rattle.aig.specs.declared.fold.Folded.{Folded}
 use Rattle.aig.specs.declared.fold.Folded.the-variants.{Pair, To}
+use Rattle.aig.specs.declared.fold.Folded.{Folded}
 use lib.Dec.{eqb, ltb}
 use mathlib.Core.Bool.{cond}
 use mathlib.Core.Path.{_≡_}

@@ -1,3 +1,4 @@
 pub mod Fold
 pub mod Literal
+pub mod Lookup
 pub mod Values

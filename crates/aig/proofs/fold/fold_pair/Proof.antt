@@ -1,10 +1,10 @@
 -- Each return is one rule of the fold, which needs that rule's test alone; no loop.
 -- The two last returns have passed every test, so that the pair does not fold.
 use Rattle.aig.proofs.FoldLaws.{fold-false-left, fold-false-right, fold-inverse, fold-ordered, fold-same, fold-swapped, fold-true-left, fold-true-right, unfolded, unfolded-swapped}
-use borrow.Author.Needs.{needs}
-use mathlib.Core.Path.{sym}
 use Rattle.aig.proofs.fold.fold_pair.Statement.{statement}
 use Rattle.aig.proofs.fold.fold_pair.Tie as tie
+use borrow.Author.Needs.{needs}
+use mathlib.Core.Path.{sym}
 
 returns : tie.Need-returns
 returns c = sym (fold-same _ _ (c .if1 .taken))

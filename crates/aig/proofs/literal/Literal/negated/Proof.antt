@@ -1,10 +1,10 @@
 -- An even literal gains 1 and an odd one loses 1; no loop. 4294967295 is odd, so the sum fits.
+use Rattle.aig.proofs.literal.Literal.negated.Statement.{statement}
+use Rattle.aig.proofs.literal.Literal.negated.Tie as tie
 use Rattle.aig.specs.Literal.{lit}
 use borrow.Author.Needs.{needs}
 use mathlib.Core.Path.{ap}
 use native.Mathlib.Omega.{arith}
-use Rattle.aig.proofs.literal.Literal.negated.Statement.{statement}
-use Rattle.aig.proofs.literal.Literal.negated.Tie as tie
 
 add-t5 : tie.Need-add-t5
 add-t5 c = search needs

@@ -1,10 +1,10 @@
 -- The two values of the inversion, one for each branch; no loop.
+use Rattle.aig.proofs.literal.Literal.new.Statement.{statement}
+use Rattle.aig.proofs.literal.Literal.new.Tie as tie
 use Rattle.aig.specs.Literal.{lit}
 use borrow.Author.Needs.{needs}
 use mathlib.Core.Path.{ap}
 use native.Mathlib.Omega.{arith}
-use Rattle.aig.proofs.literal.Literal.new.Statement.{statement}
-use Rattle.aig.proofs.literal.Literal.new.Tie as tie
 
 mul-t5 : tie.Need-mul-t5
 mul-t5 c = search needs
