@@ -1,0 +1,6 @@
+// Text as bytes: a slice cut at a separator, byte strings compared, decimal numerals read and printed.
+mod split;
+
+pub use split::part;
+pub use split::part_count;
+pub use split::until;
