@@ -1,2 +1,4 @@
+pub mod BytesLaws
+pub mod BytesSteps
 pub mod SplitLaws
 pub mod SplitSteps
