@@ -2,5 +2,8 @@ pub mod BytesLaws
 pub mod BytesSteps
 pub mod DecimalLaws
 pub mod DecimalSteps
+pub mod Examples
+pub mod NumeralLaws
+pub mod NumeralSteps
 pub mod SplitLaws
 pub mod SplitSteps
