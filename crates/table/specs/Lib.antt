@@ -1,0 +1,5 @@
+pub mod Accepted
+pub mod Limits
+pub mod Refusals
+pub mod Table
+pub mod Values
