@@ -2,5 +2,6 @@ pub mod FirstVertexLaws
 pub mod FoldLaws
 pub mod IndexLaws
 pub mod LiteralLaws
+pub mod TruthLaws
 pub mod ValuesLaws
 mod WalkLaws
