@@ -1,9 +1,10 @@
 -- Tests 10 and 11 against what they say of the words.
-use Prim.Native.Nat.{_*_, _+_, _<_, _≤_, suc, zero, ℕ}
+use Prim.Native.Nat.{_*_, _+_, _<_, suc, zero, ℕ}
 use Rattle.table.proofs.LayoutLaws.{length-output-words, length-rows, row-at, rowAt, side-output-word, side-start-bound, sideStart}
+use Rattle.table.proofs.RefusalLaws.{none-applies}
 use Rattle.table.specs.Accepted.{Accepted, Downward, RowBelow, WellFormed}
 use Rattle.table.specs.Limits.{maxAnds, maxInputs, maxOutputs}
-use Rattle.table.specs.Refusals.{Test, firstRefusal}
+use Rattle.table.specs.Refusals.{firstRefusal}
 use Rattle.table.specs.Table.{allBelow?, beyondLimits?, downward?, inputsOf, madeOf, malformed?, outOfOrder?, outputWords, outputsOf, promised, rowBelow?, rowsOf, sideOutputs, tableTests, verticesOf}
 use Rattle.table.specs.Values.{Pair}
 use Rattle.truth.proofs.Booleans.{and-left, and-right, clash}
@@ -12,15 +13,8 @@ use lib.Dec.{eqb, ltb}
 use lib.ListN.{getD, length}
 use mathlib.Core.Bool.{Bool, _&&_, _||_, false, true}
 use mathlib.Core.List.{List, [], _∷_}
-use mathlib.Core.Path.{_≡_, _∙_, ap, refl, subst, sym}
+use mathlib.Core.Path.{_≡_, refl, subst}
 use native.Mathlib.Omega.{arith}
-
--- A list of tests in which none applies has none in its first test and none in the others.
-pub first-passed : (n : ℕ) (b : Bool) (ts : List Test) → 1 ≤ n → firstRefusal (record { number = n; applies = b } ∷ ts) ≡ 0
-    → (b ≡ false) × (firstRefusal ts ≡ 0)
-unfolding firstRefusal
-first-passed n true ts h e = absurd (omega arith)
-first-passed n false ts h e = (refl, e)
 
 or-passed : (a b : Bool) → a || b ≡ false → (a ≡ false) × (b ≡ false)
 or-passed true b h = clash refl h
@@ -98,8 +92,8 @@ well-formed-tested ws h =
 pub accepted : (ws : List ℕ) → firstRefusal (tableTests ws) ≡ 0 → Accepted ws
 unfolding outOfOrder?
 accepted ws h =
-    let p = first-passed 10 (malformed? ws) (record { number = 11; applies = outOfOrder? ws } ∷ []) (omega arith) h in
-    let q = first-passed 11 (outOfOrder? ws) [] (omega arith) (p .1) in
+    let p = none-applies 10 (malformed? ws) (record { number = 11; applies = outOfOrder? ws } ∷ []) (omega arith) h in
+    let q = none-applies 11 (outOfOrder? ws) [] (omega arith) (p .1) in
     let t = not-false (ordered && below) (q .0) in
     record {
       formed = well-formed ws (p .0);

@@ -2,12 +2,13 @@
 use Prim.Native.Nat.{_*_, _+_, _-_, _<_, _≤_, suc, zero, ℕ}
 use Rattle.table.specs.Table.{graphOf, madeOf, outputWords, outputs, outputsOf, pairs, promised, rowsOf, sideOutputs}
 use Rattle.table.specs.Values.{Pair}
+use borrow.Author.Tests.{eq-eqb, ne-eqb}
 use lib.Dec.{eqb}
 use lib.ListN.{drop, getD, length, length-drop, length-take, take}
 use lib.Seq.{drop-drop, getD-drop, getD-take}
 use mathlib.Core.Bool.{Bool, cond, false, true}
-use mathlib.Core.List.{List, [], _∷_}
-use mathlib.Core.Path.{_≡_, _∙_, ap, ap₂, refl, sym}
+use mathlib.Core.List.{List, _∷_}
+use mathlib.Core.Path.{_∙_, _≡_, ap, refl}
 use native.Mathlib.Omega.{arith}
 
 -- The row that starts at a word.
@@ -85,6 +86,18 @@ module _ (ws : List ℕ) where
       side-output-word side k h
       ∙ output-word-at (sideStart side + k) (omega arith)
       ∙ ap (λ (n : ℕ). getD ws n 0) (omega arith)
+
+  -- Of side 1 right after the rows, of the other side as many words further as there are outputs.
+  pub first-side-at : (side k : ℕ) → side ≡ 1 → k < outputsOf ws → getD (sideOutputs ws side) k 0 ≡ getD ws (3 + 2 * madeOf ws + k) 0
+  first-side-at side k e h =
+      let start : sideStart side ≡ 0 = rw (eq-eqb side 1 e) refl in
+      side-output-at side k h ∙ ap (λ (n : ℕ). getD ws n 0) (omega arith)
+
+  pub second-side-at : (side k : ℕ) → (side ≡ 1 → ⊥) → k < outputsOf ws
+      → getD (sideOutputs ws side) k 0 ≡ getD ws (3 + 2 * madeOf ws + k + outputsOf ws) 0
+  second-side-at side k e h =
+      let start : sideStart side ≡ outputsOf ws = rw (ne-eqb side 1 e) refl in
+      side-output-at side k h ∙ ap (λ (n : ℕ). getD ws n 0) (omega arith)
 
   -- The graph's outputs of a side are the table's.
   pub graph-outputs : (side : ℕ) → outputs (graphOf ws) side ≡ sideOutputs ws side

@@ -1,3 +1,6 @@
 pub mod AcceptedLaws
+pub mod FunctionLaws
 pub mod LayoutLaws
+pub mod MeaningLaws
+pub mod RefusalLaws
 pub mod TestLaws

@@ -1,5 +1,5 @@
 -- The tests of rows and references by one step: what is left after the first.
-use Prim.Native.Nat.{_*_, _+_, _-_, _<_, suc, ℕ}
+use Prim.Native.Nat.{_*_, _+_, _-_, _<_, ℕ}
 use Rattle.table.proofs.LayoutLaws.{pairs-left, rowAt}
 use Rattle.table.specs.Table.{allBelow?, downward?, pairs, rowBelow?}
 use lib.Dec.{ltb}

@@ -1,7 +1,7 @@
 -- Refusals: numbered tests in the paper's order.
+use Prim.Native.Nat.{ℕ}
 use mathlib.Core.Bool.{Bool, cond}
 use mathlib.Core.List.{List, [], _∷_}
-use Prim.Native.Nat.{ℕ}
 
 -- A refusal's number, and whether it applies.
 pub record Test : Type 0 where

@@ -1,14 +1,14 @@
 -- The table: its layout, the refusals 10 and 11, and its meaning.
-use mathlib.Core.Bool.{Bool, _&&_, _||_, cond, false, not, true}
-use mathlib.Core.List.{List, [], _++_, _∷_}
 use Prim.Native.Nat.{_*_, _+_, suc, zero, ℕ}
-use lib.Dec.{eqb, ltb}
-use lib.ListN.{drop, getD, length, take}
 use Rattle.aig.specs.Values.{literalValue}
 use Rattle.table.specs.Limits.{maxAnds, maxInputs, maxOutputs}
-use Rattle.table.specs.Refusals.{Test, firstRefusal}
+use Rattle.table.specs.Refusals.{Test}
 use Rattle.table.specs.Values.{Pair, vertexValues}
 use Rattle.truth.specs.Truth.{Setting, Truth, conj, constantly, input, invert}
+use lib.Dec.{eqb, ltb}
+use lib.ListN.{drop, getD, length, take}
+use mathlib.Core.Bool.{Bool, _&&_, _||_, cond, false, not, true}
+use mathlib.Core.List.{List, [], _∷_}
 
 -- "The lent table of 32-bit words then holds: inputs; made; outputs; ..": the three words of the header.
 abbrev pub inputsOf : List ℕ → ℕ

@@ -1,7 +1,8 @@
 -- The values of a graph's vertices, over any domain: bits on one setting, or Boolean functions.
-use mathlib.Core.List.{List, [], _++_, _∷_}
 use Prim.Native.Nat.{ℕ}
 use Rattle.aig.specs.Values.{literalValue}
+use mathlib.Core.List.{List, [], _++_, _∷_}
+use mathlib.Core.Path.{_≡_}
 
 -- "two words a made vertex": its two literals.
 abbrev pub Pair : Type 0
@@ -13,3 +14,10 @@ module _ {A : Type 0} (invert : A → A) (both : A → A → A) (falsum : A) whe
   vertexValues vs [] = vs
   vertexValues vs (r ∷ rs) =
       vertexValues (vs ++ (both (literalValue invert both falsum vs (r .0)) (literalValue invert both falsum vs (r .1)) ∷ [])) rs
+
+-- A map between two domains that keeps inversion, AND and false.
+pub record Homomorphism {A B : Type 0} (invert : A → A) (both : A → A → A) (falsum : A) (invert′ : B → B) (both′ : B → B → B) (falsum′ : B)
+    (h : A → B) : Type 0 where
+  pub keeps-invert : (x : A) → h (invert x) ≡ invert′ (h x)
+  pub keeps-both : (x y : A) → h (both x y) ≡ both′ (h x) (h y)
+  pub keeps-false : h falsum ≡ falsum′

@@ -1,11 +1,12 @@
 // The table that load writes and the other calls read: its layout and the refusals 10 and 11.
+use aig::literal::Literal;
 ghost use Prim.Native.Nat.{_*_, _+_, _<_, _≤_};
+ghost use Rattle.aig.specs.Literal.{lit};
 ghost use Rattle.table.specs.Accepted.{WellFormed};
-ghost use Rattle.table.specs.Limits.{maxAnds, maxInputs, maxOutputs};
+ghost use Rattle.table.specs.Limits.{maxAnds, maxInputs};
 ghost use Rattle.table.specs.Refusals.{firstRefusal};
-ghost use Rattle.table.specs.Table.{allBelow?, beyondLimits?, downward?, malformed?, outOfOrder?, pairs, promised, rowBelow?, tableTests};
-ghost use lib.ListN.{drop, getD, length, take};
-ghost use mathlib.Core.Bool.{false};
+ghost use Rattle.table.specs.Table.{allBelow?, beyondLimits?, downward?, malformed?, outOfOrder?, outputsOf, pairs, rowBelow?, sideOutputs, tableTests, verticesOf};
+ghost use lib.ListN.{drop, getD, length};
 ghost use mathlib.Core.Path.{_≡_};
 
 pub const MAX_INPUTS: u32 = 64;
@@ -109,4 +110,28 @@ pub fn refusal(words: &[u32]) -> u32
         return 11;
     }
     0
+}
+
+// The number of vertices: the constant, the inputs, and the made ones.
+pub fn vertices(words: &[u32]) -> usize
+    requires { ⌜ WellFormed (now words) ⌝ }
+    ensures { λ r. ⌜ r ≡ verticesOf (now (words .entry)) ⌝ }
+{
+    1 + words[0] as usize + words[1] as usize
+}
+
+// An output's literal, of side 1 or 2.
+pub fn output_literal(words: &[u32], side: u32, output: usize) -> Literal
+    requires { ⌜ WellFormed (now words) ⌝ }
+    requires { ⌜ output < outputsOf (now words) ⌝ }
+    ensures { λ r. ⌜ r ≡ lit (getD (sideOutputs (now (words .entry)) side) output 0) ⌝ }
+{
+    let made = words[1] as usize;
+    let outputs = words[2] as usize;
+    let at = HEADER + 2 * made + output;
+    if side == 1 {
+        Literal(words[at])
+    } else {
+        Literal(words[at + outputs])
+    }
 }

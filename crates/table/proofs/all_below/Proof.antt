@@ -7,7 +7,6 @@ use borrow.Author.Needs.{needs}
 use borrow.Author.Tests.{le-ltb, lt-ltb}
 use lib.ListN.{drop, drop-of-length-le, length}
 use mathlib.Core.Path.{_≡_, refl}
-use native.Mathlib.Omega.{arith}
 use Rattle.table.proofs.all_below.Statement.{statement}
 use Rattle.table.proofs.all_below.Tie as tie
 

@@ -1,9 +1,8 @@
 -- The rows are tested, then the output references; no loop.
 use Prim.Native.Nat.{_*_, _+_, _-_}
-use Rattle.table.specs.Table.{inputsOf, madeOf, outOfOrder?, outputWords, outputsOf, rowsOf}
+use Rattle.table.specs.Table.{madeOf, outOfOrder?, outputWords, outputsOf, rowsOf}
 use borrow.Author.Needs.{needs}
 use borrow.Author.Tests.{not-false, not-true}
-use lib.ListN.{drop, take}
 use mathlib.Core.Path.{_≡_, refl}
 use native.Mathlib.Omega.{arith}
 use Rattle.table.proofs.is_out_of_order.Statement.{statement}
