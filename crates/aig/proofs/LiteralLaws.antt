@@ -1,6 +1,6 @@
 -- The laws of literals.
 use Prim.Native.Nat.{ℕ, _%_, _*_, _+_, _<_}
-use Rattle.aig.specs.Literal.{inverted?, literalOf, negate, vertexOf}
+use Rattle.aig.specs.Literal.{inverted?, literalOf, negate, onto, vertexOf}
 use borrow.Author.Tests.{eq-eqb, eqb-false, eqb-true, ne-eqb}
 use mathlib.Core.Bool.{Bool, cond, false, not, true}
 use mathlib.Core.Path.{_≡_, refl}
@@ -60,3 +60,16 @@ literal-parts r = go (inverted? r) refl
     go : (b : Bool) → inverted? r ≡ b → 2 * vertexOf r + cond b 1 0 ≡ r
     go true e = let h : r % 2 ≡ 1 = eqb-true (r % 2) 1 e in omega arith
     go false e = let h : (r % 2 ≡ 1 → ⊥) = eqb-false (r % 2) 1 e in omega arith
+
+-- A literal inverted where another is: its vertex, whether it is inverted, and its bound.
+pub vertex-onto : (x r : ℕ) → vertexOf (onto x r) ≡ vertexOf x
+vertex-onto x r = omega arith
+
+pub onto-even : (x r : ℕ) → r % 2 ≡ 0 → onto x r ≡ x
+onto-even x r h = omega arith
+
+pub onto-odd : (x r : ℕ) → r % 2 ≡ 1 → onto x r ≡ negate x
+onto-odd x r h = omega arith
+
+pub onto-below : (x r n : ℕ) → x < 2 * n → onto x r < 2 * n
+onto-below x r n h = omega arith

@@ -1,13 +1,14 @@
 -- What literals, folded ANDs and pairs mean, over any domain that obeys the laws of `Algebra`.
-use Prim.Native.Nat.{ℕ, _<_, _≤_}
+use Prim.Native.Nat.{_%_, _<_, _≤_, ℕ}
 use Rattle.aig.proofs.FoldLaws.{fold-cases}
-use Rattle.aig.proofs.LiteralLaws.{inverted-literal, inverted-negate, vertex-literal, vertex-negate}
+use Rattle.aig.proofs.LiteralLaws.{inverted-literal, inverted-negate, onto-even, onto-odd, vertex-literal, vertex-negate}
 use Rattle.aig.specs.Fold.{foldOf}
-use Rattle.aig.specs.Literal.{inverted?, literalOf, negate, vertexOf}
+use Rattle.aig.specs.Literal.{inverted?, literalOf, negate, onto, vertexOf}
 use Rattle.aig.specs.Values.{Algebra, AllGood, literalValue}
 use Rattle.aig.specs.declared.fold.Folded.the-variants.{Pair, To}
 use Rattle.aig.specs.declared.fold.Folded.{Folded}
 use Rattle.aig.specs.declared.literal.Literal.{Literal}
+use borrow.Author.Tests.{eqb-false, eqb-true}
 use lib.ListN.{List·getD-append, List·getD-eq-default, getD, length}
 use mathlib.Core.Bool.{Bool, _&&_, cond, false, not, true}
 use mathlib.Core.List.{List, _++_}
@@ -114,3 +115,15 @@ module _ {A : Type 0} {Good : A → Type 0} {invert : A → A} {both : A → A �
         ≡ both (literalValue invert both falsum vs p) (literalValue invert both falsum vs q)
     unfolding Means value
     pair-means p q e = subst (Means p q) e (means p q)
+
+-- The value of a literal that is inverted where another is.
+module _ {A : Type 0} {Good : A → Type 0} {invert : A → A} {both : A → A → A} {falsum : A} (L : Algebra Good invert both falsum)
+    (vs : List A) (good : AllGood Good falsum vs) where
+  pub value-onto : (x r : ℕ) → literalValue invert both falsum vs (onto x r)
+      ≡ cond (inverted? r) (invert (literalValue invert both falsum vs x)) (literalValue invert both falsum vs x)
+  value-onto x r = go (inverted? r) refl
+    where
+      go : (b : Bool) → inverted? r ≡ b → literalValue invert both falsum vs (onto x r)
+          ≡ cond b (invert (literalValue invert both falsum vs x)) (literalValue invert both falsum vs x)
+      go true e = ap (literalValue invert both falsum vs) (onto-odd x r (eqb-true (r % 2) 1 e)) ∙ value-negate L vs good x
+      go false e = let h : (r % 2 ≡ 1 → ⊥) = eqb-false (r % 2) 1 e in ap (literalValue invert both falsum vs) (onto-even x r (omega arith))

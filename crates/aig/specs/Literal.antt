@@ -23,3 +23,7 @@ inverted? r = eqb (r % 2) 1
 -- The inversion of a literal: the same vertex, inverted if it was not.
 abbrev pub negate : ℕ → ℕ
 negate r = r + 1 - 2 * (r % 2)
+
+-- The literal x, inverted where r is: what r stands for where its vertex stands for x.
+abbrev pub onto : ℕ → ℕ → ℕ
+onto x r = x / 2 * 2 + (x + r) % 2

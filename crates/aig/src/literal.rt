@@ -1,6 +1,6 @@
 // A literal names a vertex, inverted or not. The paper calls it a reference.
 ghost use Prim.Native.Nat.{_<_, _^_};
-ghost use Rattle.aig.specs.Literal.{inverted?, lit, literalOf, negate, vertexOf};
+ghost use Rattle.aig.specs.Literal.{inverted?, lit, literalOf, negate, onto, vertexOf};
 ghost use mathlib.Core.Path.{_≡_};
 
 // Twice a vertex number, plus 1 if inverted.
@@ -42,5 +42,12 @@ impl Literal {
         ensures { λ r. ⌜ r ≡ inverted? (self .0) ⌝ }
     {
         self.0 % 2 == 1
+    }
+
+    // This literal, inverted where `other` is.
+    pub fn onto(self, other: Literal) -> Self
+        ensures { λ r. ⌜ r ≡ lit (onto (self .0) (other .0)) ⌝ }
+    {
+        Literal(self.0 / 2 * 2 + (self.0 % 2 + other.0 % 2) % 2)
     }
 }
