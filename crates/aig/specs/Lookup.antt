@@ -8,7 +8,7 @@ use Rattle.aig.specs.declared.lookup.Found.{Found}
 use lib.Dec.{eqb}
 use lib.ListN.{drop, getD, length, replicate, set}
 use mathlib.Core.Bool.{Bool, _&&_, cond}
-use mathlib.Core.List.{List, _++_}
+use mathlib.Core.List.{List, [], _++_, _∷_}
 use mathlib.Core.Path.{_≡_}
 
 -- The first of the two words of a vertex.
@@ -22,6 +22,11 @@ secondWord pairs v = getD pairs (2 * v + 1) 0
 -- The pairs with the words of vertex v set.
 abbrev pub withRow : List ℕ → ℕ → ℕ → ℕ → List ℕ
 withRow pairs v p q = set (set pairs (2 * v) p) (2 * v + 1) q
+
+-- The words of n vertices from v on that stand for themselves: each holds its own literal twice.
+unfoldable pub ownWords : ℕ → ℕ → List ℕ
+ownWords v zero = []
+ownWords v (suc n) = 2 * v ∷ 2 * v ∷ ownWords (suc v) n
 
 -- Whether the words of vertex v are p and q.
 abbrev pub hasPair : List ℕ → ℕ → ℕ → ℕ → Bool

@@ -89,10 +89,10 @@ well-formed-tested ws h =
     (rw (ne-eqb (outputsOf ws) 0 some, le-ltb maxOutputs (outputsOf ws) (h .outputs)) (le-ltb (length ws) (promised (madeOf ws) (outputsOf ws)) (h .whole)))
 
 -- Words to which neither 10 nor 11 applies are a well-formed table whose references are in order, and such a table is not refused.
-pub accepted : (ws : List ℕ) → firstRefusal (tableTests ws) ≡ 0 → Accepted ws
+pub accepted : (ws : List ℕ) → firstRefusal 0 (tableTests ws) ≡ 0 → Accepted ws
 unfolding outOfOrder?
 accepted ws h =
-    let p = none-applies 10 (malformed? ws) (record { number = 11; applies = outOfOrder? ws } ∷ []) (omega arith) h in
+    let p = none-applies 10 (malformed? ws) (record { answer = 11; applies = outOfOrder? ws } ∷ []) (omega arith) h in
     let q = none-applies 11 (outOfOrder? ws) [] (omega arith) (p .1) in
     let t = not-false (ordered && below) (q .0) in
     record {
@@ -107,7 +107,7 @@ accepted ws h =
     below : Bool
     below = allBelow? (2 * verticesOf ws) (outputWords ws)
 
-pub accepts : (ws : List ℕ) → Accepted ws → firstRefusal (tableTests ws) ≡ 0
+pub accepts : (ws : List ℕ) → Accepted ws → firstRefusal 0 (tableTests ws) ≡ 0
 unfolding firstRefusal outOfOrder?
 accepts ws h =
     rw (well-formed-tested ws (h .formed), downward-tested (1 + inputsOf ws) (rowsOf ws) (h .rows))

@@ -1,14 +1,13 @@
--- Refusals: numbered tests in the paper's order.
-use Prim.Native.Nat.{ℕ}
+-- Refusals: tests in the paper's order.
 use mathlib.Core.Bool.{Bool, cond}
 use mathlib.Core.List.{List, [], _∷_}
 
--- A refusal's number, and whether it applies.
-pub record Test : Type 0 where
-  pub number : ℕ
+-- What a refusal answers (its number, or its number, file and line), and whether it applies.
+pub record Test (A : Type 0) : Type 0 where
+  pub answer : A
   pub applies : Bool
 
--- "the first refusal that applies", 0 where none does.
-unfoldable pub firstRefusal : List Test → ℕ
-firstRefusal [] = 0
-firstRefusal (t ∷ ts) = cond (t .applies) (t .number) (firstRefusal ts)
+-- "the first refusal that applies", or the answer where none does.
+unfoldable pub firstRefusal : {A : Type 0} → A → List (Test A) → A
+firstRefusal accepted [] = accepted
+firstRefusal accepted (t ∷ ts) = cond (t .applies) (t .answer) (firstRefusal accepted ts)

@@ -74,8 +74,8 @@ unfoldable pub outOfOrder? : List ℕ → Bool
 outOfOrder? ws = not (downward? (1 + inputsOf ws) (rowsOf ws) && allBelow? (2 * verticesOf ws) (outputWords ws))
 
 -- Tests 10 and 11, for any words at all.
-abbrev pub tableTests : List ℕ → List Test
-tableTests ws = record { number = 10; applies = malformed? ws } ∷ record { number = 11; applies = outOfOrder? ws } ∷ []
+abbrev pub tableTests : List ℕ → List (Test ℕ)
+tableTests ws = record { answer = 10; applies = malformed? ws } ∷ record { answer = 11; applies = outOfOrder? ws } ∷ []
 
 -- The graph that the words of a table hold.
 pub record Graph : Type 0 where

@@ -101,7 +101,7 @@ fn is_out_of_order(words: &[u32]) -> bool
 
 // The first of the refusals 10 and 11 that applies to some words, or 0.
 pub fn refusal(words: &[u32]) -> u32
-    ensures { λ r. ⌜ r ≡ firstRefusal (tableTests (now (words .entry))) ⌝ }
+    ensures { λ r. ⌜ r ≡ firstRefusal 0 (tableTests (now (words .entry))) ⌝ }
 {
     if is_malformed(words) {
         return 10;
