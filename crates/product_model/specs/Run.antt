@@ -1,0 +1,70 @@
+-- The product of two decision diagrams as a run over truth tables, with a limit on rows and a limit on steps.
+use mathlib.Core.Bool.{_||_, cond}
+use mathlib.Core.List.{List, [], _∷_}
+use Prim.Native.Nat.{_+_, ℕ}
+use lib.Dec.{ltb}
+use lib.ListN.{length}
+use Rattle.truth.specs.Distinct.{among}
+use Rattle.truth.specs.Parts.{alike?, depends?}
+use Rattle.truth.specs.Steps.{terminal?}
+use Rattle.truth.specs.Truth.{Truth, conj, invert, leaf, node, same?, valueAt}
+
+-- "each row is one distinct part": the functions of the diagram rows made so far, newest first; and the product steps taken.
+pub record Book : Type 0 where
+  pub store : List Truth
+  pub steps : ℕ
+
+-- "a shortfall ends it": a run is done, short of rows or short of steps, each with what was added and taken so far.
+pub data Outcome : Type 0 where
+  done : Book → Outcome
+  shortOfRows : Book → Outcome
+  shortOfSteps : Book → Outcome
+
+-- The book that an outcome leaves.
+unfoldable pub bookOf : Outcome → Book
+bookOf (done b) = b
+bookOf (shortOfRows b) = b
+bookOf (shortOfSteps b) = b
+
+-- "a shortfall ends it": what follows is run only on a book that is done.
+unfoldable pub andThen : Outcome → (Book → Outcome) → Outcome
+andThen (done b) next = next b
+andThen (shortOfRows b) next = shortOfRows b
+andThen (shortOfSteps b) next = shortOfSteps b
+
+-- "product calls counted against the limit": one step more, or short where "one more step than the limit was needed".
+unfoldable pub countStep : ℕ → Book → Outcome
+countStep stepLimit b =
+    cond (ltb (b .steps) stepLimit) (done (record { store = b .store; steps = b .steps + 1 })) (shortOfSteps b)
+
+-- "one row serving a function and its inverse": of the two, the one that is false on the all-zero setting.
+unfoldable pub plain : Truth → Truth
+plain f = cond (valueAt f []) (invert f) f
+
+-- "each row is one distinct part": a part found in the store stays as it is, another is added in plain form, or is short where
+-- "the row limit was passed". "Each input gets its row" so too.
+unfoldable pub addPart : ℕ → Truth → Book → Outcome
+addPart rowLimit f b =
+    cond (among alike? f (b .store)) (done b)
+    (cond (ltb (length (b .store)) rowLimit) (done (record { store = plain f ∷ b .store; steps = b .steps })) (shortOfRows b))
+
+-- "What is left is a part at k if it depends on input k.": the row of the function with these halves, none where they are equal.
+unfoldable pub addRow : ℕ → Truth → Truth → Book → Outcome
+addRow rowLimit low high b = cond (same? low high) (done b) (addPart rowLimit (node low high) b)
+
+module _ (rowLimit stepLimit : ℕ) where
+  -- "The product of two diagrams calls itself on both values of the lowest input": each call is counted first; a terminal pair
+  -- ends it, an input on which neither depends is passed over; else value 0, then value 1, then the row of the conjunction.
+  unfoldable pub run : Truth → Truth → Book → Outcome
+  run (leaf x) g b = countStep stepLimit b
+  run (node f₀ f₁) (leaf y) b = countStep stepLimit b
+  run (node f₀ f₁) (node g₀ g₁) b =
+      let halves =
+      andThen (countStep stepLimit b) λ b₁.
+      andThen (run f₀ g₀ b₁) λ b₂.
+      andThen (run f₁ g₁ b₂) λ b₃.
+      addRow rowLimit (conj f₀ g₀) (conj f₁ g₁) b₃
+      in
+      let passed = run f₀ g₀ b in
+      cond (terminal? (node f₀ f₁) (node g₀ g₁)) (countStep stepLimit b)
+      (cond (depends? (node f₀ f₁) || depends? (node g₀ g₁)) halves passed)
