@@ -26,11 +26,12 @@ bookOf (done b) = b
 bookOf (shortOfRows b) = b
 bookOf (shortOfSteps b) = b
 
+infixl 20 _andThen_
 -- "a shortfall ends it": what follows is run only on a book that is done.
-unfoldable pub andThen : Outcome → (Book → Outcome) → Outcome
-andThen (done b) next = next b
-andThen (shortOfRows b) next = shortOfRows b
-andThen (shortOfSteps b) next = shortOfSteps b
+unfoldable pub _andThen_ : Outcome → (Book → Outcome) → Outcome
+_andThen_ (done b) next = next b
+_andThen_ (shortOfRows b) next = shortOfRows b
+_andThen_ (shortOfSteps b) next = shortOfSteps b
 
 -- "product calls counted against the limit": one step more, or short where "one more step than the limit was needed".
 unfoldable pub countStep : ℕ → Book → Outcome
@@ -59,12 +60,7 @@ module _ (rowLimit stepLimit : ℕ) where
   run (leaf x) g b = countStep stepLimit b
   run (node f₀ f₁) (leaf y) b = countStep stepLimit b
   run (node f₀ f₁) (node g₀ g₁) b =
-      let halves =
-      andThen (countStep stepLimit b) λ b₁.
-      andThen (run f₀ g₀ b₁) λ b₂.
-      andThen (run f₁ g₁ b₂) λ b₃.
-      addRow rowLimit (conj f₀ g₀) (conj f₁ g₁) b₃
-      in
+      let halves = countStep stepLimit b andThen run f₀ g₀ andThen run f₁ g₁ andThen addRow rowLimit (conj f₀ g₀) (conj f₁ g₁) in
       let passed = run f₀ g₀ b in
       cond (terminal? (node f₀ f₁) (node g₀ g₁)) (countStep stepLimit b)
       (cond (depends? (node f₀ f₁) || depends? (node g₀ g₁)) halves passed)
