@@ -1,1 +1,13 @@
 pub mod Cards
+pub mod Cases
+pub mod Equations
+pub mod Members
+pub mod Plain
+pub mod Conjunction
+pub mod Ran
+pub mod Store
+pub mod Run
+pub mod Part
+pub mod Inputs
+pub mod Kept
+pub mod Larger

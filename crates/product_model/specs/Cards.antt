@@ -3,7 +3,7 @@ use mathlib.Core.Bool.{false, true}
 use mathlib.Core.List.{List, [], _∷_}
 use mathlib.Core.Path.{_≡_}
 use Rattle.product_model.specs.Run.{Book, done, run, shortOfRows, shortOfSteps}
-use Rattle.truth.specs.Truth.{Truth, conj, input, invert, leaf, node}
+use Rattle.truth.specs.Truth.{Truth, conj, disj, input, invert, leaf, node}
 
 -- Inputs 1 and 2, of two, and their rows: input 2's is the function of one input that is left after input 1.
 abbrev pub a : Truth
@@ -37,15 +37,31 @@ rowsOfBoth = firstXorThird ∷ rowsOfInputs
 abbrev pub bothStored : Book
 bothStored = record { store = rowsOfBoth; steps = 0 }
 
--- Value 0 comes before value 1: their rows stand in that order, and a shortfall in value 1 leaves the row of value 0.
+-- Value 0 comes before value 1: their rows stand in that order, a shortfall in value 1 leaves the row of value 0, and one in value 0
+-- ends the run before value 1.
 pub record ZeroBeforeOne : Type 0 where
   pub order-done : run 6 7 second firstXorThird bothStored
       ≡ done (record { store = node (conj a b) (conj a (invert b)) ∷ conj a (invert b) ∷ conj a b ∷ rowsOfBoth; steps = 7 })
   pub order-rows : run 4 7 second firstXorThird bothStored ≡ shortOfRows (record { store = conj a b ∷ rowsOfBoth; steps = 7 })
+  pub order-ended : run 3 7 second firstXorThird bothStored ≡ shortOfRows (record { store = rowsOfBoth; steps = 4 })
   pub order-steps : run 6 4 second firstXorThird bothStored ≡ shortOfSteps (record { store = conj a b ∷ rowsOfBoth; steps = 4 })
 
--- A conjunction that is true on the all-zero setting is stored as its inverse, and found there the next time.
-pub record InverseFound : Type 0 where
-  pub inverse-plain : run 3 3 (invert a) (invert b) inputsOnly ≡ done (record { store = invert (conj (invert a) (invert b)) ∷ rowsOfInputs; steps = 3 })
-  pub inverse-again : run 3 3 (invert a) (invert b) (record { store = invert (conj (invert a) (invert b)) ∷ rowsOfInputs; steps = 0 })
-      ≡ done (record { store = invert (conj (invert a) (invert b)) ∷ rowsOfInputs; steps = 3 })
+-- The product of not a and not b is true on the all-zero setting: "one row serving a function and its inverse", in plain form.
+abbrev pub rowsOfNor : List Truth
+rowsOfNor = disj a b ∷ rowsOfInputs
+
+pub record InverseStored : Type 0 where
+  pub inverse-plain : run 3 3 (invert a) (invert b) inputsOnly ≡ done (record { store = rowsOfNor; steps = 3 })
+  pub inverse-found : run 3 3 (invert a) (invert b) (record { store = rowsOfNor; steps = 0 }) ≡ done (record { store = rowsOfNor; steps = 3 })
+
+-- The functions a implies b and a or b, whose conjunction is b.
+abbrev pub implies : Truth
+implies = disj (invert a) b
+
+abbrev pub rowsOfFactors : List Truth
+rowsOfFactors = invert implies ∷ disj a b ∷ rowsOfInputs
+
+-- No row where the halves of a conjunction are equal, and no step for an input on which neither function depends.
+pub record NoRowNoStep : Type 0 where
+  pub halves-equal : run 4 3 implies (disj a b) (record { store = rowsOfFactors; steps = 0 }) ≡ done (record { store = rowsOfFactors; steps = 3 })
+  pub input-passed : run 3 3 (node a a) (node b b) inputsOnly ≡ done (record { store = conj a b ∷ rowsOfInputs; steps = 3 })

@@ -26,28 +26,35 @@ bookOf (done b) = b
 bookOf (shortOfRows b) = b
 bookOf (shortOfSteps b) = b
 
-infixl 20 _andThen_
 -- "a shortfall ends it": what follows is run only on a book that is done.
+infixl 20 _andThen_
 unfoldable pub _andThen_ : Outcome → (Book → Outcome) → Outcome
 _andThen_ (done b) next = next b
 _andThen_ (shortOfRows b) next = shortOfRows b
 _andThen_ (shortOfSteps b) next = shortOfSteps b
 
+-- A book with one step more.
+abbrev pub withStep : Book → Book
+withStep b = record { store = b .store; steps = b .steps + 1 }
+
 -- "product calls counted against the limit": one step more, or short where "one more step than the limit was needed".
 unfoldable pub countStep : ℕ → Book → Outcome
-countStep stepLimit b =
-    cond (ltb (b .steps) stepLimit) (done (record { store = b .store; steps = b .steps + 1 })) (shortOfSteps b)
+countStep stepLimit b = cond (ltb (b .steps) stepLimit) (done (withStep b)) (shortOfSteps b)
 
 -- "one row serving a function and its inverse": of the two, the one that is false on the all-zero setting.
 unfoldable pub plain : Truth → Truth
 plain f = cond (valueAt f []) (invert f) f
 
--- "each row is one distinct part": a part found in the store stays as it is, another is added in plain form, or is short where
--- "the row limit was passed". "Each input gets its row" so too.
+-- A book with one row more.
+abbrev pub withRow : Truth → Book → Book
+withRow f b = record { store = plain f ∷ b .store; steps = b .steps }
+
+-- "each row is one distinct part": a part found in the store needs no row, another gets one in plain form, or is short where "the
+-- row limit was passed". "Each input gets its row" by it too.
 unfoldable pub addPart : ℕ → Truth → Book → Outcome
 addPart rowLimit f b =
     cond (among alike? f (b .store)) (done b)
-    (cond (ltb (length (b .store)) rowLimit) (done (record { store = plain f ∷ b .store; steps = b .steps })) (shortOfRows b))
+    (cond (ltb (length (b .store)) rowLimit) (done (withRow f b)) (shortOfRows b))
 
 -- "What is left is a part at k if it depends on input k.": the row of the function with these halves, none where they are equal.
 unfoldable pub addRow : ℕ → Truth → Truth → Book → Outcome
@@ -60,7 +67,7 @@ module _ (rowLimit stepLimit : ℕ) where
   run (leaf x) g b = countStep stepLimit b
   run (node f₀ f₁) (leaf y) b = countStep stepLimit b
   run (node f₀ f₁) (node g₀ g₁) b =
-      let halves = countStep stepLimit b andThen run f₀ g₀ andThen run f₁ g₁ andThen addRow rowLimit (conj f₀ g₀) (conj f₁ g₁) in
+      let both = countStep stepLimit b andThen run f₀ g₀ andThen run f₁ g₁ andThen addRow rowLimit (conj f₀ g₀) (conj f₁ g₁) in
       let passed = run f₀ g₀ b in
       cond (terminal? (node f₀ f₁) (node g₀ g₁)) (countStep stepLimit b)
-      (cond (depends? (node f₀ f₁) || depends? (node g₀ g₁)) halves passed)
+      (cond (depends? (node f₀ f₁) || depends? (node g₀ g₁)) both passed)

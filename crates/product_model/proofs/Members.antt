@@ -1,0 +1,38 @@
+-- Laws of lists whose members are all members of another.
+use mathlib.Core.Bool.{Bool, not, or-false, true}
+use mathlib.Core.List.{List, [], _++_, _∷_}
+use mathlib.Core.Logic.{⊎-elim}
+use mathlib.Core.Path.{_∙_, _≡_, ap, refl, sym}
+use Rattle.truth.proofs.Booleans.{and-left, clash, not-true, or-cases, or-left, or-right}
+use Rattle.truth.proofs.Distinct.{Within, among-append, among-congruent}
+use Rattle.truth.specs.Distinct.{Sameness, among, apart}
+
+module _ {A : Type 0} (same : A → A → Bool) where
+  -- The empty list has no members.
+  pub within-none : (ys : List A) → Within same [] ys
+  unfolding among
+  within-none ys z h = clash h refl
+
+  -- Two lists after one another have the members of both, and no others.
+  pub within-left : (xs ys : List A) → Within same xs (xs ++ ys)
+  within-left xs ys z h = among-append same z xs ys ∙ or-left (among same z xs) (among same z ys) h
+
+  pub within-right : (xs ys : List A) → Within same ys (xs ++ ys)
+  within-right xs ys z h = among-append same z xs ys ∙ or-right (among same z xs) (among same z ys) h
+
+  pub within-append : (xs ys zs : List A) → Within same xs zs → Within same ys zs → Within same (xs ++ ys) zs
+  within-append xs ys zs f g z h = ⊎-elim (f z) (g z) (or-cases (among same z xs) (among same z ys) (sym (among-append same z xs ys) ∙ h))
+
+  -- One member.
+  pub within-one : Sameness same → (x : A) (ys : List A) → among same x ys ≡ true → Within same (x ∷ []) ys
+  unfolding among
+  within-one S x ys e z h = among-congruent same S z x ys (sym (or-false (same z x)) ∙ h) ∙ e
+
+  -- A list without repeats whose first members are all members of the rest has no such first members.
+  pub apart-none : Sameness same → (xs ys : List A) → apart same (xs ++ ys) ≡ true → Within same xs ys → xs ≡ []
+  unfolding among apart
+  apart-none S [] ys a w = refl
+  apart-none S (x ∷ xs) ys a w =
+      clash
+      (within-right xs ys x (w x (or-left (same x x) (among same x xs) (S .reflexive x))))
+      (not-true (among same x (xs ++ ys)) (λ e. clash (and-left (not (among same x (xs ++ ys))) (apart same (xs ++ ys)) a) (ap not e)))
