@@ -1,0 +1,73 @@
+-- The sweep keeps every function: rows and outputs at the end stand for what they stood for at entry.
+use mathlib.Core.Bool.{false}
+use mathlib.Core.List.{List}
+use mathlib.Core.Path.{_∙_, _≡_, ap, ap₂}
+use Prim.Native.Nat.{_*_, _<_, _≤_, ℕ}
+use native.Mathlib.Omega.{arith}
+use Rattle.aig.specs.Lookup.{firstWord, secondWord}
+use Rattle.sweep_model.proofs.Induction.{Endings, endings-keep, sweep-keeps}
+use Rattle.sweep_model.proofs.Rows.{resolve-function}
+use Rattle.sweep_model.proofs.Steady.{Steady, mark-steady}
+use Rattle.sweep_model.proofs.Tidy.{SamePair, crossed, straight}
+use Rattle.sweep_model.specs.Fit.{Fit, Sound, vertexCount}
+use Rattle.sweep_model.specs.Normalise.{merged?, resolve}
+use Rattle.sweep_model.specs.State.{Problem, State, literalFunction}
+use Rattle.sweep_model.specs.Sweep.{givenBack, sweep}
+use Rattle.truth.proofs.Steps.{steps-symmetric}
+use Rattle.truth.specs.Steps.{steps}
+use Rattle.truth.specs.Truth.{Truth}
+
+module _ {p : Problem} {entry : List ℕ} (fit : Fit p entry) where
+  module _ {s : State} (h : Steady p entry s) (v : ℕ) (made : p .first ≤ v) (within : v < vertexCount p) (unmerged : merged? (s .rows) v ≡ false) where
+    -- The row of a vertex that was not merged has the operand functions that it had at entry, up to order.
+    pub operands-kept :
+        SamePair (literalFunction p (firstWord (s .rows) v)) (literalFunction p (secondWord (s .rows) v)) (literalFunction p (firstWord entry v))
+        (literalFunction p (secondWord entry v))
+    operands-kept = go (h .moved .pairs v made within unmerged)
+      where
+        first : literalFunction p (resolve (s .rows) (firstWord entry v)) ≡ literalFunction p (firstWord entry v)
+        first = resolve-function p (fit .well-formed) (h .sound) (firstWord entry v) (omega (arith, fit .sound .downward .first-below v made within))
+
+        second : literalFunction p (resolve (s .rows) (secondWord entry v)) ≡ literalFunction p (secondWord entry v)
+        second = resolve-function p (fit .well-formed) (h .sound) (secondWord entry v) (omega (arith, fit .sound .downward .second-below v made within))
+
+        go : SamePair (firstWord (s .rows) v) (secondWord (s .rows) v) (resolve (s .rows) (firstWord entry v)) (resolve (s .rows) (secondWord entry v))
+            → SamePair (literalFunction p (firstWord (s .rows) v)) (literalFunction p (secondWord (s .rows) v)) (literalFunction p (firstWord entry v))
+            (literalFunction p (secondWord entry v))
+        go (straight a b) = straight (ap (literalFunction p) a ∙ first) (ap (literalFunction p) b ∙ second)
+        go (crossed a b) = crossed (ap (literalFunction p) a ∙ second) (ap (literalFunction p) b ∙ first)
+
+    -- So its product takes the steps of the operands at entry.
+    pub steps-kept :
+        steps (literalFunction p (firstWord (s .rows) v)) (literalFunction p (secondWord (s .rows) v))
+        ≡ steps (literalFunction p (firstWord entry v)) (literalFunction p (secondWord entry v))
+    steps-kept = go operands-kept
+      where
+        go : {f g f′ g′ : Truth} → SamePair f g f′ g′ → steps f g ≡ steps f′ g′
+        go (straight a b) = ap₂ steps a b
+        go {f} {g} (crossed a b) = ap₂ steps a b ∙ steps-symmetric _ _
+
+  steady-ends : Endings p entry (λ x s. Steady p entry s)
+  steady-ends =
+      record {
+        same-literal = λ s h e. h;
+        inverse-literal = λ s h e. h;
+        same-function = λ s h e. h;
+        other-function = λ s h e. h;
+        lacks-input-row = λ v s h. mark-steady s (s .book) v 3 h;
+        lacks-row = λ v b s h. mark-steady s (givenBack (s .book) b) v 3 h;
+        lacks-step = λ v b s h. mark-steady s (givenBack (s .book) b) v 3 h;
+        rests = λ s h. h;
+      }
+
+  -- The rows at the end are tidy and have moved on from the entry rows; exactly the merged vertices are gone.
+  pub sweep-steady : Steady p entry (sweep p entry .left)
+  sweep-steady = sweep-keeps fit (endings-keep steady-ends)
+
+  -- Every vertex's function is kept: the rows at the end refer downwards and stand for the same functions.
+  pub sweep-sound : Sound p (sweep p entry .left .rows)
+  sweep-sound = sweep-steady .sound
+
+  -- Every literal's function is kept: what it became at the end has it.
+  pub literals-kept : (r : ℕ) → r < 2 * vertexCount p → literalFunction p (resolve (sweep p entry .left .rows) r) ≡ literalFunction p r
+  literals-kept r h = resolve-function p (fit .well-formed) sweep-sound r h

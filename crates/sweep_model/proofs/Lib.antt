@@ -1,0 +1,16 @@
+pub mod Functions
+pub mod Rows
+pub mod Normal
+pub mod Tidy
+pub mod Settle
+pub mod Stages
+pub mod Takes
+pub mod Turns
+pub mod Choices
+pub mod Steady
+pub mod Merger
+pub mod Induction
+pub mod Bound
+pub mod Kept
+pub mod Right
+pub mod Example

@@ -1,0 +1,5 @@
+pub mod State
+pub mod Normalise
+pub mod Fit
+pub mod Sweep
+pub mod Reply

@@ -1,0 +1,200 @@
+-- Steps 2 to 6: the sweep.
+use mathlib.Core.Bool.{Bool, _&&_, _||_, cond, false, not, true}
+use mathlib.Core.List.{List, [], _∷_}
+use Prim.Native.Nat.{_+_, _-_, max, min, suc, zero, ℕ}
+use lib.Dec.{eqb, leb, ltb}
+use lib.ListN.{length, replicate, set}
+use Rattle.aig.specs.Literal.{literalOf, negate, vertexOf}
+use Rattle.aig.specs.Lookup.{firstWord, secondWord}
+use Rattle.product_model.specs.Run.{Book, Outcome, addPart, done, run, shortOfRows, shortOfSteps}
+use Rattle.sweep_model.specs.Normalise.{mergedInto, normalise, resolve}
+use Rattle.sweep_model.specs.State.{Problem, Stage, State, again, bare, bare?, dropped, dropped?, functionOf, gone, has?, literalFunction, open?, opened, stageOf, waiting, waits?, withBook, withMark, withRows, withStages}
+use Rattle.sweep_model.specs.declared.Cause.{Cause}
+use Rattle.sweep_model.specs.declared.Cause.the-variants.{Idle, Rows, Size, Steps}
+use Rattle.truth.specs.Parts.{alike?, size}
+use Rattle.truth.specs.Settings.{firstDifference}
+use Rattle.truth.specs.Truth.{Setting, Truth, leaf, node, same?}
+
+-- "Replies: Equal; Different; Undecided", the second with its setting.
+pub data Verdict : Type 0 where
+  equal : Verdict
+  different : Setting → Verdict
+  undecided : Cause → Verdict
+
+-- The sweep goes on, or ends with a verdict.
+pub data Progress : Type 0 where
+  on : State → Progress
+  ends : Verdict → State → Progress
+
+unfoldable pub andThen : Progress → (State → Progress) → Progress
+andThen (on s) next = next s
+andThen (ends x s) next = ends x s
+
+-- "2. If both outputs are now one reference, Equal. If they are inverse, Different with all inputs 0." "5. .. if both have diagrams
+-- and are not one reference, Different.": two functions with diagrams are compared themselves.
+unfoldable pub lookAt : Problem → State → ℕ → ℕ → Progress
+lookAt p s l r =
+    cond (eqb l r) (ends equal s)
+    (cond (eqb l (negate r)) (ends (different (replicate (p .inputs) false)) s)
+    (cond (has? (stageOf (s .stages) (vertexOf l)) && has? (stageOf (s .stages) (vertexOf r)))
+    (cond (same? (literalFunction p l) (literalFunction p r)) (ends equal s)
+    (ends (different (firstDifference (literalFunction p l) (literalFunction p r))) s))
+    (on s)))
+
+unfoldable pub look : Problem → State → Progress
+look p s = lookAt p s (resolve (s .rows) (p .left)) (resolve (s .rows) (p .right))
+
+-- A vertex that got its diagram: mark "1 swept, or an input given its row", and it waits.
+unfoldable pub swept : ℕ → State → State
+swept v s = withMark v 1 (withStages (set (s .stages) v waiting) s)
+
+-- The row of an input's function: what is left of it behind the inputs on which it does not depend.
+unfoldable pub topPart : Truth → Truth
+topPart (leaf b) = leaf b
+topPart (node f g) = cond (same? f g) (topPart f) (node f g)
+
+-- "3. .. Each input gets its row, upwards, and waits.": n inputs from vertex v on. A row limit that is passed is "Rows with the
+-- vertex at which the row limit was passed", marked 3.
+unfoldable pub giveRow : ℕ → State → Outcome → Progress
+giveRow v s (done b) = on (swept v (withBook b s))
+giveRow v s (shortOfRows b) = ends (undecided (Rows v)) (withMark v 3 s)
+giveRow v s (shortOfSteps b) = ends (undecided (Steps v)) (withMark v 3 s)
+
+unfoldable pub inputsFrom : Problem → ℕ → ℕ → State → Progress
+inputsFrom p v zero s = on s
+inputsFrom p v (suc n) s =
+    andThen (giveRow v s (addPart (p .limits .rows) (topPart (functionOf p v)) (s .book))) (inputsFrom p (suc v) n)
+
+-- "If its function or the inverse belongs to a vertex with a diagram": the lowest such vertex of n from w on.
+pub data Twin : Type 0 where
+  at : ℕ → Twin
+  none : Twin
+
+unfoldable pub twinFrom : Problem → List Stage → ℕ → ℕ → ℕ → Twin
+twinFrom p stages v w zero = none
+twinFrom p stages v w (suc n) =
+    let later = twinFrom p stages v (suc w) n in
+    cond (has? (stageOf stages w) && alike? (functionOf p v) (functionOf p w)) (at w) later
+
+-- "the two merge and normalising follows": the higher into the lower, inverted where the functions are inverse. "Otherwise it waits."
+unfoldable pub meet : Problem → ℕ → State → Twin → State
+meet p v s none = swept v s
+meet p v s (at w) =
+    normalise (p .first)
+    (swept v (withRows (mergedInto (s .rows) (max v w) (literalOf (min v w) (not (same? (functionOf p v) (functionOf p w))))) s))
+
+-- The rows of a book given back to those of another; its steps stay.
+abbrev pub givenBack : Book → Book → Book
+givenBack old b = record { store = old .store; steps = b .steps }
+
+-- "If its size exceeds the size limit it is dropped and its new rows are given back."
+unfoldable pub drop : ℕ → Book → State → State
+drop v b s = withMark v 2 (withStages (set (s .stages) v dropped) (withBook (givenBack (s .book) b) s))
+
+-- A product's end: "2 product ended and too large", "1 swept", "3 the vertex named by Rows or Steps". "5. .. after every product the
+-- outputs are looked at".
+unfoldable pub conclude : Problem → ℕ → State → Outcome → Progress
+conclude p v s (done b) =
+    cond (ltb (p .limits .size) (size (functionOf p v)))
+    (look p (drop v b s))
+    (look p (meet p v (withBook b s) (twinFrom p (s .stages) v 0 (length (s .stages)))))
+conclude p v s (shortOfRows b) = ends (undecided (Rows v)) (withMark v 3 (withBook (givenBack (s .book) b) s))
+conclude p v s (shortOfSteps b) = ends (undecided (Steps v)) (withMark v 3 (withBook (givenBack (s .book) b) s))
+
+-- "has its product taken": of the functions of the two operands.
+unfoldable pub multiply : Problem → ℕ → State → Progress
+multiply p v s =
+    conclude p v s
+    (run (p .limits .rows) (p .limits .steps) (literalFunction p (firstWord (s .rows) v)) (literalFunction p (secondWord (s .rows) v)) (s .book))
+
+-- "each higher vertex with both operands open, without a diagram, not merged and not dropped"
+unfoldable pub ready? : Problem → ℕ → State → Bool
+ready? p v s =
+    leb (p .first) v && bare? (stageOf (s .stages) v)
+    && open? (stageOf (s .stages) (vertexOf (firstWord (s .rows) v)))
+    && open? (stageOf (s .stages) (vertexOf (secondWord (s .rows) v)))
+
+unfoldable pub visit : Problem → ℕ → State → Progress
+visit p v s = elim (ready? p v s) [ true ↦ multiply p v s | false ↦ on s ]
+
+-- "Upwards, each higher vertex ..": n vertices from v on.
+unfoldable pub scanFrom : Problem → ℕ → ℕ → State → Progress
+scanFrom p v zero s = on s
+scanFrom p v (suc n) s = andThen (visit p v s) (scanFrom p (suc v) n)
+
+-- "The waiting vertex of least size opens, lowest number on a tie.": of the stages from vertex v on.
+unfoldable pub smaller : Problem → ℕ → Twin → ℕ
+smaller p v none = v
+smaller p v (at w) = cond (leb (size (functionOf p v)) (size (functionOf p w))) v w
+
+unfoldable pub pickFrom : Problem → ℕ → List Stage → Twin
+pickFrom p v [] = none
+pickFrom p v (x ∷ xs) =
+    let later = pickFrom p (suc v) xs in
+    cond (waits? x) (at (smaller p v later)) later
+
+-- "4. The waiting vertex of least size opens .. Upwards, each higher vertex .."
+unfoldable pub openAt : Problem → ℕ → State → Progress
+openAt p v s = scanFrom p (suc v) (length (s .stages) - suc v) (withStages (set (s .stages) v opened) s)
+
+-- How many more turns there can be: a merged vertex counts 0, one that is open and does not wait 1, any other 2.
+unfoldable pub turnsOf : Stage → ℕ
+turnsOf bare = 2
+turnsOf waiting = 2
+turnsOf opened = 1
+turnsOf again = 2
+turnsOf dropped = 2
+turnsOf gone = 0
+
+unfoldable pub turnsLeft : List Stage → ℕ
+turnsLeft [] = 0
+turnsLeft (x ∷ xs) = turnsOf x + turnsLeft xs
+
+-- Turns until it ends or none waits.
+unfoldable pub goFor : Problem → ℕ → State → Progress
+goFor p zero s = on s
+goFor p (suc n) s =
+    elim (pickFrom p 0 (s .stages)) [
+      | at v ↦ andThen (openAt p v s) (goFor p n)
+      | none ↦ on s
+    ]
+
+unfoldable pub go : Problem → State → Progress
+go p s = goFor p (turnsLeft (s .stages)) s
+
+-- "6. If none waits, the reply is Undecided.": "by Size (some vertex dropped, none waiting)", "Idle (none waits, none dropped)".
+unfoldable pub anyDropped? : List Stage → Bool
+anyDropped? [] = false
+anyDropped? (x ∷ xs) = dropped? x || anyDropped? xs
+
+unfoldable pub cause : State → Cause
+cause s = cond (anyDropped? (s .stages)) Size Idle
+
+-- "Marks, one byte a vertex, all written at a reply": all 0 at first. The constant "has a diagram of size 0 and never waits".
+unfoldable pub begin : Problem → List ℕ → State
+begin p rows =
+    record {
+      rows = rows;
+      stages = set (replicate (length (p .functions)) bare) 0 opened;
+      marks = replicate (length (p .functions)) 0;
+      book = record { store = []; steps = 0 };
+    }
+
+-- Steps 1, 2, 3 and 5.
+unfoldable pub start : Problem → List ℕ → Progress
+start p rows =
+    andThen (look p (normalise (p .first) (begin p rows))) λ s.
+    andThen (inputsFrom p 1 (p .first - 1) s) (look p)
+
+-- The verdict and the state that it leaves.
+pub record Answer : Type 0 where
+  pub verdict : Verdict
+  pub left : State
+
+unfoldable pub answerOf : Progress → Answer
+answerOf (ends x s) = record { verdict = x; left = s }
+answerOf (on s) = record { verdict = undecided (cause s); left = s }
+
+-- The whole sweep on the entry rows.
+unfoldable pub sweep : Problem → List ℕ → Answer
+sweep p rows = answerOf (andThen (start p rows) (go p))
