@@ -3,3 +3,4 @@ pub mod Normalise
 pub mod Fit
 pub mod Sweep
 pub mod Reply
+pub mod Claims

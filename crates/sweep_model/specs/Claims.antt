@@ -1,0 +1,107 @@
+-- What the paper says of a reply: marks, rows, steps, and the conditions after each.
+use mathlib.Core.Bool.{Bool, _||_, cond}
+use mathlib.Core.List.{List, [], _∷_, map}
+use mathlib.Core.Logic.{_⊎_}
+use mathlib.Core.Path.{_≡_}
+use Prim.Native.Nat.{_+_, _-_, _<_, _≤_, suc, zero, ℕ}
+use lib.Dec.{eqb}
+use lib.ListN.{drop, getD, length}
+use Rattle.aig.specs.Literal.{vertexOf}
+use Rattle.aig.specs.Lookup.{firstWord, secondWord}
+use Rattle.sweep_model.specs.State.{Problem, literalFunction}
+use Rattle.truth.specs.Parts.{together}
+use Rattle.truth.specs.Steps.{steps}
+use Rattle.truth.specs.Truth.{Truth, conj}
+
+-- An AND: the functions of its two operands. Its function and its product steps.
+abbrev pub And : Type 0
+And = Truth × Truth
+
+abbrev pub andFunction : And → Truth
+andFunction x = conj (x .0) (x .1)
+
+abbrev pub andSteps : And → ℕ
+andSteps x = steps (x .0) (x .1)
+
+-- "they add up"
+unfoldable pub sum : List ℕ → ℕ
+sum [] = 0
+sum (n ∷ ns) = n + sum ns
+
+-- "The steps of an AND are those of its two operand functions before it was itself merged.": n made vertices from v on, by given rows.
+unfoldable pub andsFrom : Problem → List ℕ → ℕ → ℕ → List And
+andsFrom p rows v zero = []
+andsFrom p rows v (suc n) = (literalFunction p (firstWord rows v), literalFunction p (secondWord rows v)) ∷ andsFrom p rows (suc v) n
+
+unfoldable pub andsOf : Problem → List ℕ → List And
+andsOf p rows = andsFrom p rows (p .first) (length (p .functions) - p .first)
+
+-- Those of some things whose mark passes a test.
+unfoldable pub marked : {A : Type 0} → (ℕ → Bool) → List ℕ → List A → List A
+marked test [] xs = []
+marked test (m ∷ ms) [] = []
+marked test (m ∷ ms) (x ∷ xs) = cond (test m) (x ∷ marked test ms xs) (marked test ms xs)
+
+abbrev pub is : ℕ → ℕ → Bool
+is k m = eqb m k
+
+abbrev pub isEither : ℕ → ℕ → ℕ → Bool
+isEither j k m = eqb m j || eqb m k
+
+-- "Rows reported = distinct parts of the functions marked 1."
+abbrev pub rowsMarked : Problem → List ℕ → ℕ
+rowsMarked p marks = together (marked (is 1) marks (p .functions))
+
+-- "the functions marked 1 or 3 have more parts than the row limit"
+abbrev pub rowsMarkedWithLast : Problem → List ℕ → ℕ
+rowsMarkedWithLast p marks = together (marked (isEither 1 3) marks (p .functions))
+
+-- "the sum over ANDs marked 1 or 2", the operands by the entry rows.
+abbrev pub stepsMarked : Problem → List ℕ → List ℕ → ℕ
+stepsMarked p rows marks = sum (map andSteps (marked (isEither 1 2) (drop (p .first) marks) (andsOf p rows)))
+
+-- "the sum with the vertex marked 3"
+abbrev pub stepsMarkedWithLast : Problem → List ℕ → List ℕ → ℕ
+stepsMarkedWithLast p rows marks =
+    sum (map andSteps (marked (λ m. isEither 1 2 m || is 3 m) (drop (p .first) marks) (andsOf p rows)))
+
+-- The conditions after Size and Idle, on count vertices of which some come first: marks and rows as a reply left them, and the rows by
+-- which operands are read.
+module _ (first count : ℕ) (marks rows operands : List ℕ) where
+  abbrev pub markOf : ℕ → ℕ
+  markOf v = getD marks v 0
+
+  -- "A vertex merged into reference r has the row (r, r)."
+  abbrev pub Merged : ℕ → Type 0
+  Merged v = firstWord rows v ≡ secondWord rows v
+
+  -- An AND: a made vertex.
+  pub record Made (v : ℕ) : Type 0 where
+    pub made : first ≤ v
+    pub there : v < count
+
+  -- "has one marked 1 merged into it"
+  pub record TookOne (v : ℕ) : Type 0 where
+    pub other : ℕ
+    pub made : Made other
+    pub mark : markOf other ≡ 1
+    pub merged : Merged other
+    pub into : vertexOf (firstWord rows other) ≡ v
+
+  -- "an unmerged AND marked 2, or marked 0 with none marked 1 merged into it"
+  pub record Stuck (v : ℕ) : Type 0 where
+    pub made : Made v
+    pub unmerged : Merged v → ⊥
+    pub mark : (markOf v ≡ 2) ⊎ ((markOf v ≡ 0) × (TookOne v → ⊥))
+
+  -- "is merged, or has one marked 1 merged into it, or has an operand that is .."
+  pub data Excused (v : ℕ) : Type 0 where
+    by-merging : Merged v → Excused v
+    by-taking : TookOne v → Excused v
+    by-first : Stuck (vertexOf (firstWord operands v)) → Excused v
+    by-second : Stuck (vertexOf (secondWord operands v)) → Excused v
+
+  -- "After Size and Idle, every input is marked 1, and every AND marked 0 ..".
+  pub record AtRest : Type 0 where
+    pub inputs : (v : ℕ) → 1 ≤ v → v < first → markOf v ≡ 1
+    pub ands : (v : ℕ) → Made v → markOf v ≡ 0 → Excused v
