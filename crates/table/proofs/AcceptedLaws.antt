@@ -1,13 +1,13 @@
 -- Tests 10 and 11 against what they say of the words.
 use Prim.Native.Nat.{_*_, _+_, _<_, suc, zero, ℕ}
-use Rattle.table.proofs.LayoutLaws.{length-output-words, length-rows, row-at, rowAt, side-output-word, side-start-bound, sideStart}
-use Rattle.table.proofs.RefusalLaws.{none-applies}
+use Rattle.table.proofs.LayoutLaws.{length-output-words, length-rows, row-at, side-output-word, side-start-bound}
+use Rattle.table.proofs.RefusalLaws.{neither, none-applies}
 use Rattle.table.specs.Accepted.{Accepted, Downward, RowBelow, WellFormed}
 use Rattle.table.specs.Limits.{maxAnds, maxInputs, maxOutputs}
 use Rattle.table.specs.Refusals.{firstRefusal}
-use Rattle.table.specs.Table.{allBelow?, beyondLimits?, downward?, inputsOf, madeOf, malformed?, outOfOrder?, outputWords, outputsOf, promised, rowBelow?, rowsOf, sideOutputs, tableTests, verticesOf}
+use Rattle.table.specs.Table.{allBelow?, beyondLimits?, downward?, inputsOf, madeOf, malformed?, outOfOrder?, outputWords, outputsOf, promised, rowAt, rowBelow?, rowsOf, sideOutputs, sideStart, tableTests, verticesOf}
 use Rattle.table.specs.Values.{Pair}
-use Rattle.truth.proofs.Booleans.{and-left, and-right, clash}
+use Rattle.truth.proofs.Booleans.{and-left, and-right}
 use borrow.Author.Tests.{eqb-false, le-ltb, lt-ltb, ltb-false, ltb-true, ne-eqb, not-false}
 use lib.Dec.{eqb, ltb}
 use lib.ListN.{getD, length}
@@ -16,11 +16,7 @@ use mathlib.Core.List.{List, [], _∷_}
 use mathlib.Core.Path.{_≡_, refl, subst}
 use native.Mathlib.Omega.{arith}
 
-or-passed : (a b : Bool) → a || b ≡ false → (a ≡ false) × (b ≡ false)
-or-passed true b h = clash refl h
-or-passed false b h = (refl, h)
-
--- The test of a row.
+-- The test of a row, from the test to what it says and back.
 pub row-below : (n : ℕ) (r : Pair) → rowBelow? n r ≡ true → RowBelow n r
 unfolding rowBelow?
 row-below n r h =
@@ -33,7 +29,7 @@ pub below-row : (n : ℕ) (r : Pair) → RowBelow n r → rowBelow? n r ≡ true
 unfolding rowBelow?
 below-row n r h = rw (lt-ltb (r .0) n (h .first), lt-ltb (r .1) n (h .second))
 
--- The test of all rows.
+-- The test of all rows, likewise.
 pub downward : (v : ℕ) (rs : List Pair) → downward? v rs ≡ true → Downward v rs
 unfolding downward?
 downward v [] h i l = absurd (omega arith)
@@ -50,7 +46,7 @@ downward-tested v (r ∷ rs) h =
     rw (below-row (2 * v) r (subst (λ (n : ℕ). RowBelow (2 * n) r) (omega arith) (h 0 (omega arith))))
     (downward-tested (suc v) rs (λ i l. subst (λ (n : ℕ). RowBelow (2 * n) (getD rs i (0, 0))) (omega arith) (h (suc i) (omega arith))))
 
--- The test of all output references.
+-- The test of all output references, likewise.
 pub all-below : (n : ℕ) (rs : List ℕ) → allBelow? n rs ≡ true → (k : ℕ) → k < length rs → getD rs k 0 < n
 unfolding allBelow?
 all-below n [] h k l = absurd (omega arith)
@@ -62,15 +58,15 @@ unfolding allBelow?
 all-below-tested n [] h = refl
 all-below-tested n (r ∷ rs) h = rw (lt-ltb r n (h 0 (omega arith))) (all-below-tested n rs (λ k l. h (suc k) (omega arith)))
 
--- Test 10.
+-- Test 10, from the test to what it says and back.
 pub well-formed : (ws : List ℕ) → malformed? ws ≡ false → WellFormed ws
 unfolding malformed? beyondLimits?
 well-formed ws h =
-    let p = or-passed (ltb (length ws) 3 || beyondLimits? (inputsOf ws) (madeOf ws) (outputsOf ws)) (ltb (length ws) (promised (madeOf ws) (outputsOf ws))) h in
-    let q = or-passed (ltb (length ws) 3) (beyondLimits? (inputsOf ws) (madeOf ws) (outputsOf ws)) (p .0) in
-    let o = or-passed (ltb maxInputs (inputsOf ws) || ltb maxAnds (madeOf ws) || eqb (outputsOf ws) 0) (ltb maxOutputs (outputsOf ws)) (q .1) in
-    let z = or-passed (ltb maxInputs (inputsOf ws) || ltb maxAnds (madeOf ws)) (eqb (outputsOf ws) 0) (o .0) in
-    let i = or-passed (ltb maxInputs (inputsOf ws)) (ltb maxAnds (madeOf ws)) (z .0) in
+    let p = neither (ltb (length ws) 3 || beyondLimits? (inputsOf ws) (madeOf ws) (outputsOf ws)) (ltb (length ws) (promised (madeOf ws) (outputsOf ws))) h in
+    let q = neither (ltb (length ws) 3) (beyondLimits? (inputsOf ws) (madeOf ws) (outputsOf ws)) (p .0) in
+    let o = neither (ltb maxInputs (inputsOf ws) || ltb maxAnds (madeOf ws) || eqb (outputsOf ws) 0) (ltb maxOutputs (outputsOf ws)) (q .1) in
+    let z = neither (ltb maxInputs (inputsOf ws) || ltb maxAnds (madeOf ws)) (eqb (outputsOf ws) 0) (o .0) in
+    let i = neither (ltb maxInputs (inputsOf ws)) (ltb maxAnds (madeOf ws)) (z .0) in
     let some : (outputsOf ws ≡ 0 → ⊥) = eqb-false (outputsOf ws) 0 (z .1) in
     record {
       header = ltb-false (length ws) 3 (q .0);

@@ -1,18 +1,19 @@
 -- The functions of a graph against its values on each setting.
-use Prim.Native.Nat.{_+_, _<_, _≤_, suc, zero, ℕ}
+use Prim.Native.Nat.{_*_, _+_, _<_, _≤_, suc, zero, ℕ}
 use Rattle.aig.proofs.TruthLaws.{functions}
 use Rattle.aig.proofs.ValuesLaws.{all-good, value-good}
 use Rattle.aig.specs.Values.{AllGood}
-use Rattle.table.proofs.MeaningLaws.{length-values, literal-mapped, value-kept, values-good, values-mapped}
+use Rattle.table.proofs.MeaningLaws.{length-values, literal-mapped, row-value, value-kept, values-good, values-mapped}
+use Rattle.table.specs.Accepted.{Downward, RowBelow}
 use Rattle.table.specs.Table.{Graph, firstFunctions, functionsOf, inputsFrom, outputFunction, outputValue, outputs, valuesOn}
-use Rattle.table.specs.Values.{Homomorphism, vertexValues}
+use Rattle.table.specs.Values.{Homomorphism, rowValue, vertexValues}
 use Rattle.truth.proofs.Values.{perfect-constant, perfect-input, value-conj, value-constant, value-input, value-invert}
 use Rattle.truth.specs.Truth.{Perfect, Setting, Truth, conj, constantly, input, invert, valueAt}
 use lib.ListN.{drop, drop-of-length-le, getD, length}
 use lib.Seq.{drop-cons}
 use mathlib.Core.Bool.{Bool, _&&_, false, not}
 use mathlib.Core.List.{List, _∷_, map}
-use mathlib.Core.Path.{_∙_, _≡_, ap, ap₂, refl, sym}
+use mathlib.Core.Path.{_∙_, _≡_, ap, ap₂, refl, subst, sym}
 use native.Mathlib.Omega.{arith}
 
 -- Taking the value on a setting keeps inversion, AND and false.
@@ -100,3 +101,14 @@ module _ (g : Graph) where
   length-functions =
       length-values invert conj (constantly (g .inputs) false) (firstFunctions (g .inputs)) (g .rows)
       ∙ ap (λ (n : ℕ). n + length (g .rows)) (length-first-functions (g .inputs))
+
+  -- The function of row i's vertex is the conjunction of its literals' functions.
+  pub function-row : Downward (1 + g .inputs) (g .rows) → (i : ℕ) → i < length (g .rows)
+      → getD (functionsOf g) (1 + g .inputs + i) (constantly (g .inputs) false)
+      ≡ rowValue invert conj (constantly (g .inputs) false) (functionsOf g) (getD (g .rows) i (0, 0))
+  unfolding functionsOf
+  function-row h i l =
+      let n : length (firstFunctions (g .inputs)) ≡ 1 + g .inputs = length-first-functions (g .inputs) ∙ omega arith in
+      let below = subst (λ (v : ℕ). RowBelow (2 * (v + i)) (getD (g .rows) i (0, 0))) (sym n) (h i l) in
+      ap (λ (v : ℕ). getD (functionsOf g) (v + i) (constantly (g .inputs) false)) (sym n)
+      ∙ row-value invert conj (constantly (g .inputs) false) (firstFunctions (g .inputs)) (g .rows) i l below

@@ -1,6 +1,6 @@
 -- Where a table's rows and output references stand among its words.
 use Prim.Native.Nat.{_*_, _+_, _-_, _<_, _≤_, suc, zero, ℕ}
-use Rattle.table.specs.Table.{graphOf, madeOf, outputWords, outputs, outputsOf, pairs, promised, rowsOf, sideOutputs}
+use Rattle.table.specs.Table.{graphOf, madeOf, outputWords, outputs, outputsOf, pairs, promised, rowAt, rowsOf, sideOutputs, sideStart}
 use Rattle.table.specs.Values.{Pair}
 use borrow.Author.Tests.{eq-eqb, ne-eqb}
 use lib.Dec.{eqb}
@@ -10,10 +10,6 @@ use mathlib.Core.Bool.{Bool, cond, false, true}
 use mathlib.Core.List.{List, _∷_}
 use mathlib.Core.Path.{_∙_, _≡_, ap, refl}
 use native.Mathlib.Omega.{arith}
-
--- The row that starts at a word.
-abbrev pub rowAt : List ℕ → ℕ → Pair
-rowAt ws at = (getD ws at 0, getD ws (at + 1) 0)
 
 -- The first of some rows is read off, and the others stand two words further.
 pub pairs-suc : (n at : ℕ) (ws : List ℕ) → pairs (suc n) (drop at ws) ≡ rowAt ws at ∷ pairs n (drop (at + 2) ws)
@@ -30,6 +26,7 @@ pairs-left at n i ws h =
     let k : at + 2 * i + 2 ≡ at + 2 * (i + 1) = omega arith in
     rw m (pairs-suc (n - (i + 1)) (at + 2 * i) ws ∙ ap (λ (k : ℕ). rowAt ws (at + 2 * i) ∷ pairs (n - (i + 1)) (drop k ws)) k)
 
+-- There are n rows.
 pub length-pairs : (n : ℕ) (ws : List ℕ) → length (pairs n ws) ≡ n
 unfolding pairs
 length-pairs zero ws = refl
@@ -63,11 +60,8 @@ module _ (ws : List ℕ) where
   unfolding outputWords
   length-output-words h = rw (length-take, length-drop) (omega arith)
 
-  -- Where the output references of a side start among those of both.
-  abbrev pub sideStart : ℕ → ℕ
-  sideStart side = cond (eqb side 1) 0 (outputsOf ws)
-
-  pub side-start-bound : (side : ℕ) → sideStart side ≤ outputsOf ws
+  -- Those of a side start among the first half.
+  pub side-start-bound : (side : ℕ) → sideStart ws side ≤ outputsOf ws
   side-start-bound side = go (eqb side 1)
     where
       go : (b : Bool) → cond b 0 (outputsOf ws) ≤ outputsOf ws
@@ -75,28 +69,28 @@ module _ (ws : List ℕ) where
       go false = omega arith
 
   -- Output k of a side stands k words after the side's first.
-  pub side-output-word : (side k : ℕ) → k < outputsOf ws → getD (sideOutputs ws side) k 0 ≡ getD (outputWords ws) (sideStart side + k) 0
+  pub side-output-word : (side k : ℕ) → k < outputsOf ws → getD (sideOutputs ws side) k 0 ≡ getD (outputWords ws) (sideStart ws side + k) 0
   unfolding sideOutputs
   side-output-word side k h =
-      getD-take (outputsOf ws) (drop (sideStart side) (outputWords ws)) k 0 h ∙ getD-drop (sideStart side) (outputWords ws) k 0
+      getD-take (outputsOf ws) (drop (sideStart ws side) (outputWords ws)) k 0 h ∙ getD-drop (sideStart ws side) (outputWords ws) k 0
 
-  pub side-output-at : (side k : ℕ) → k < outputsOf ws → getD (sideOutputs ws side) k 0 ≡ getD ws (3 + 2 * madeOf ws + sideStart side + k) 0
+  pub side-output-at : (side k : ℕ) → k < outputsOf ws → getD (sideOutputs ws side) k 0 ≡ getD ws (3 + 2 * madeOf ws + sideStart ws side + k) 0
   side-output-at side k h =
       let b = side-start-bound side in
       side-output-word side k h
-      ∙ output-word-at (sideStart side + k) (omega arith)
+      ∙ output-word-at (sideStart ws side + k) (omega arith)
       ∙ ap (λ (n : ℕ). getD ws n 0) (omega arith)
 
   -- Of side 1 right after the rows, of the other side as many words further as there are outputs.
   pub first-side-at : (side k : ℕ) → side ≡ 1 → k < outputsOf ws → getD (sideOutputs ws side) k 0 ≡ getD ws (3 + 2 * madeOf ws + k) 0
   first-side-at side k e h =
-      let start : sideStart side ≡ 0 = rw (eq-eqb side 1 e) refl in
+      let start : sideStart ws side ≡ 0 = rw (eq-eqb side 1 e) refl in
       side-output-at side k h ∙ ap (λ (n : ℕ). getD ws n 0) (omega arith)
 
   pub second-side-at : (side k : ℕ) → (side ≡ 1 → ⊥) → k < outputsOf ws
       → getD (sideOutputs ws side) k 0 ≡ getD ws (3 + 2 * madeOf ws + k + outputsOf ws) 0
   second-side-at side k e h =
-      let start : sideStart side ≡ outputsOf ws = rw (ne-eqb side 1 e) refl in
+      let start : sideStart ws side ≡ outputsOf ws = rw (ne-eqb side 1 e) refl in
       side-output-at side k h ∙ ap (λ (n : ℕ). getD ws n 0) (omega arith)
 
   -- The graph's outputs of a side are the table's.

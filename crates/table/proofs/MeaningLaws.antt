@@ -5,7 +5,7 @@ use Rattle.aig.proofs.ValuesLaws.{all-good, value-good}
 use Rattle.aig.specs.Literal.{inverted?, vertexOf}
 use Rattle.aig.specs.Values.{Algebra, AllGood, literalValue}
 use Rattle.table.specs.Accepted.{RowBelow}
-use Rattle.table.specs.Values.{Homomorphism, Pair, vertexValues}
+use Rattle.table.specs.Values.{Homomorphism, Pair, rowValue, vertexValues}
 use lib.ListN.{List·getD-append, List·getD-map, drop, getD, length, length-append, set, take}
 use lib.Seq.{getD-append-seam, length-take-le, set-split, split-at}
 use mathlib.Core.Bool.{Bool, cond, false, true}
@@ -15,33 +15,27 @@ use native.Mathlib.Decide.{decLt}
 use native.Mathlib.Omega.{arith}
 
 module _ {A : Type 0} (invert : A → A) (both : A → A → A) (falsum : A) where
-  -- The value of a row: the AND of the values of its two literals.
-  abbrev pub rowValue : List A → Pair → A
-  rowValue vs r = both (literalValue invert both falsum vs (r .0)) (literalValue invert both falsum vs (r .1))
-
   -- The values of more rows are found from those of the rows before.
   pub values-append : (vs : List A) (rs qs : List Pair)
       → vertexValues invert both falsum vs (rs ++ qs) ≡ vertexValues invert both falsum (vertexValues invert both falsum vs rs) qs
   unfolding vertexValues
   values-append vs [] qs = refl
-  values-append vs (r ∷ rs) qs = values-append (vs ++ (rowValue vs r ∷ [])) rs qs
+  values-append vs (r ∷ rs) qs = values-append (vs ++ (rowValue invert both falsum vs r ∷ [])) rs qs
 
   -- Each row adds one value.
   pub length-values : (vs : List A) (rs : List Pair) → length (vertexValues invert both falsum vs rs) ≡ length vs + length rs
   unfolding vertexValues
   length-values vs [] = omega arith
   length-values vs (r ∷ rs) =
-      let ih : length (vertexValues invert both falsum (vs ++ (rowValue vs r ∷ [])) rs) ≡ length (vs ++ (rowValue vs r ∷ [])) + length rs
-      = length-values (vs ++ (rowValue vs r ∷ [])) rs
-      in omega (arith, ih, length-append vs (rowValue vs r ∷ []))
+      omega (arith, length-values (vs ++ (rowValue invert both falsum vs r ∷ [])) rs, length-append vs (rowValue invert both falsum vs r ∷ []))
 
   -- Rows do not change the values before them.
   pub value-kept : (vs : List A) (rs : List Pair) (v : ℕ) (d : A) → v < length vs → getD (vertexValues invert both falsum vs rs) v d ≡ getD vs v d
   unfolding vertexValues
   value-kept vs [] v d h = refl
   value-kept vs (r ∷ rs) v d h =
-      value-kept (vs ++ (rowValue vs r ∷ [])) rs v d (omega (arith, length-append vs (rowValue vs r ∷ [])))
-      ∙ List·getD-append vs (rowValue vs r ∷ []) d v h
+      value-kept (vs ++ (rowValue invert both falsum vs r ∷ [])) rs v d (omega (arith, length-append vs (rowValue invert both falsum vs r ∷ [])))
+      ∙ List·getD-append vs (rowValue invert both falsum vs r ∷ []) d v h
 
   pub literal-kept : (vs : List A) (rs : List Pair) (r : ℕ) → vertexOf r < length vs
       → literalValue invert both falsum (vertexValues invert both falsum vs rs) r ≡ literalValue invert both falsum vs r
@@ -62,18 +56,18 @@ module _ {A : Type 0} (invert : A → A) (both : A → A → A) (falsum : A) whe
     -- A row after some rows has the value of its AND there.
     pub row-made : (rs : List Pair) (r : Pair) (qs : List Pair)
         → getD (vertexValues invert both falsum vs (rs ++ r ∷ qs)) (length vs + length rs) falsum
-        ≡ rowValue (vertexValues invert both falsum vs rs) r
+        ≡ rowValue invert both falsum (vertexValues invert both falsum vs rs) r
     unfolding vertexValues
     row-made rs r qs =
         let us : List A = vertexValues invert both falsum vs rs in
         let n : length us ≡ length vs + length rs = length-values vs rs in
-        let x : A = rowValue us r in
+        let x : A = rowValue invert both falsum us r in
         rw (values-append vs rs (r ∷ qs), ← n)
         (value-kept (us ++ (x ∷ [])) qs (length us) falsum (omega (arith, length-append us (x ∷ []))) ∙ getD-append-seam us x [] falsum)
 
     -- A row may be replaced by one whose AND has the same value given the values before it.
     pub row-replaced : (rs : List Pair) (r q : Pair) (qs : List Pair)
-        → rowValue (vertexValues invert both falsum vs rs) r ≡ rowValue (vertexValues invert both falsum vs rs) q
+        → rowValue invert both falsum (vertexValues invert both falsum vs rs) r ≡ rowValue invert both falsum (vertexValues invert both falsum vs rs) q
         → vertexValues invert both falsum vs (rs ++ r ∷ qs) ≡ vertexValues invert both falsum vs (rs ++ q ∷ qs)
     unfolding vertexValues
     row-replaced rs r q qs e = rw (values-append vs rs (r ∷ qs), values-append vs rs (q ∷ qs), e) refl
@@ -90,13 +84,13 @@ module _ {A : Type 0} (invert : A → A) (both : A → A → A) (falsum : A) whe
           ∙ literal-appended vs (take i rs) (getD rs i (0, 0) ∷ drop (suc i) rs) r (rw n (vertex-below r (length vs + i) l))
 
       row-early : (r : Pair) → RowBelow (2 * (length vs + i)) r
-          → rowValue (vertexValues invert both falsum vs rs) r ≡ rowValue (vertexValues invert both falsum vs (take i rs)) r
+          → rowValue invert both falsum (vertexValues invert both falsum vs rs) r ≡ rowValue invert both falsum (vertexValues invert both falsum vs (take i rs)) r
       row-early r l = ap₂ both (literal-early (r .0) (l .first)) (literal-early (r .1) (l .second))
 
       -- The vertex of row i has the value of its AND, given the values of all vertices.
       pub row-value : RowBelow (2 * (length vs + i)) (getD rs i (0, 0))
           → getD (vertexValues invert both falsum vs rs) (length vs + i) falsum
-          ≡ rowValue (vertexValues invert both falsum vs rs) (getD rs i (0, 0))
+          ≡ rowValue invert both falsum (vertexValues invert both falsum vs rs) (getD rs i (0, 0))
       row-value l =
           let n : length (take i rs) ≡ i = length-take-le i rs (omega arith) in
           let e : rs ≡ take i rs ++ getD rs i (0, 0) ∷ drop (suc i) rs = split-at rs i (0, 0) h in
@@ -106,7 +100,7 @@ module _ {A : Type 0} (invert : A → A) (both : A → A → A) (falsum : A) whe
 
       -- Row i may be replaced by one below its vertex whose AND has the same value given the values of all vertices.
       pub row-set : (q : Pair) → RowBelow (2 * (length vs + i)) (getD rs i (0, 0)) → RowBelow (2 * (length vs + i)) q
-          → rowValue (vertexValues invert both falsum vs rs) (getD rs i (0, 0)) ≡ rowValue (vertexValues invert both falsum vs rs) q
+          → rowValue invert both falsum (vertexValues invert both falsum vs rs) (getD rs i (0, 0)) ≡ rowValue invert both falsum (vertexValues invert both falsum vs rs) q
           → vertexValues invert both falsum vs (set rs i q) ≡ vertexValues invert both falsum vs rs
       row-set q l k e =
           rw (set-split rs i q h)

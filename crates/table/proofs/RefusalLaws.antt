@@ -2,10 +2,16 @@
 use Prim.Native.Nat.{_≤_, ℕ}
 use Rattle.table.specs.Refusals.{Test, firstRefusal}
 use Rattle.table.specs.Table.{malformed?, outOfOrder?, tableTests}
-use mathlib.Core.Bool.{Bool, cond, false, true}
+use Rattle.truth.proofs.Booleans.{clash}
+use mathlib.Core.Bool.{Bool, _||_, cond, false, true}
 use mathlib.Core.List.{List, [], _++_, _∷_}
 use mathlib.Core.Path.{_≡_, refl}
 use native.Mathlib.Omega.{arith}
+
+-- Where an or is false, neither part is true.
+pub neither : (a b : Bool) → a || b ≡ false → (a ≡ false) × (b ≡ false)
+neither true b h = clash refl h
+neither false b h = (refl, h)
 
 -- Where no test applies, the first does not, and none of the others does.
 pub none-applies : (n : ℕ) (b : Bool) (ts : List (Test ℕ)) → 1 ≤ n → firstRefusal 0 (record { answer = n; applies = b } ∷ ts) ≡ 0
@@ -23,6 +29,17 @@ refused-first (t ∷ ts) us h = go (t .applies) h (refused-first ts us)
     go : (b : Bool) → (cond b (t .answer) (firstRefusal 0 ts) ≡ 0 → ⊥) → ((firstRefusal 0 ts ≡ 0 → ⊥) → firstRefusal 0 (ts ++ us) ≡ firstRefusal 0 ts)
         → cond b (t .answer) (firstRefusal 0 (ts ++ us)) ≡ cond b (t .answer) (firstRefusal 0 ts)
     go true h ih = refl
+    go false h ih = ih h
+
+-- Where none of all tests applies, none of the first does.
+pub first-passed : (ts us : List (Test ℕ)) → firstRefusal 0 (ts ++ us) ≡ 0 → firstRefusal 0 ts ≡ 0
+unfolding firstRefusal
+first-passed [] us h = refl
+first-passed (t ∷ ts) us h = go (t .applies) h (first-passed ts us)
+  where
+    go : (b : Bool) → cond b (t .answer) (firstRefusal 0 (ts ++ us)) ≡ 0 → (firstRefusal 0 (ts ++ us) ≡ 0 → firstRefusal 0 ts ≡ 0)
+        → cond b (t .answer) (firstRefusal 0 ts) ≡ 0
+    go true h ih = h
     go false h ih = ih h
 
 -- Where tests 10 and 11 do not apply, the tests after them decide.

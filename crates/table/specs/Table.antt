@@ -24,11 +24,16 @@ outputsOf ws = getD ws 2 0
 abbrev pub verticesOf : List ℕ → ℕ
 verticesOf ws = 1 + inputsOf ws + madeOf ws
 
--- "two words a made vertex": the rows in n pairs of words.
+-- "two words a made vertex": the row that starts at a word.
+abbrev pub rowAt : List ℕ → ℕ → Pair
+rowAt ws at = (getD ws at 0, getD ws (at + 1) 0)
+
+-- n rows, one after the other.
 unfoldable pub pairs : ℕ → List ℕ → List Pair
 pairs zero ws = []
 pairs (suc n) ws = (getD ws 0 0, getD ws 1 0) ∷ pairs n (drop 2 ws)
 
+-- The rows stand after the header.
 unfoldable pub rowsOf : List ℕ → List Pair
 rowsOf ws = pairs (madeOf ws) (drop 3 ws)
 
@@ -36,9 +41,13 @@ rowsOf ws = pairs (madeOf ws) (drop 3 ws)
 unfoldable pub outputWords : List ℕ → List ℕ
 outputWords ws = take (2 * outputsOf ws) (drop (3 + 2 * madeOf ws) ws)
 
+-- Where those of side 1 or 2 start.
+abbrev pub sideStart : List ℕ → ℕ → ℕ
+sideStart ws side = cond (eqb side 1) 0 (outputsOf ws)
+
 -- Those of side 1 or 2.
 unfoldable pub sideOutputs : List ℕ → ℕ → List ℕ
-sideOutputs ws side = take (outputsOf ws) (drop (cond (eqb side 1) 0 (outputsOf ws)) (outputWords ws))
+sideOutputs ws side = take (outputsOf ws) (drop (sideStart ws side) (outputWords ws))
 
 -- The words that a header promises.
 abbrev pub promised : ℕ → ℕ → ℕ
@@ -77,13 +86,14 @@ outOfOrder? ws = not (downward? (1 + inputsOf ws) (rowsOf ws) && allBelow? (2 * 
 abbrev pub tableTests : List ℕ → List (Test ℕ)
 tableTests ws = record { answer = 10; applies = malformed? ws } ∷ record { answer = 11; applies = outOfOrder? ws } ∷ []
 
--- The graph that the words of a table hold.
+-- A graph: the number of inputs, the row of each made vertex, and the output literals of both sides.
 pub record Graph : Type 0 where
   pub inputs : ℕ
   pub rows : List Pair
   pub left : List ℕ
   pub right : List ℕ
 
+-- The graph that the words of a table hold.
 unfoldable pub graphOf : List ℕ → Graph
 graphOf ws = record { inputs = inputsOf ws; rows = rowsOf ws; left = sideOutputs ws 1; right = sideOutputs ws 2 }
 
@@ -91,24 +101,27 @@ graphOf ws = record { inputs = inputsOf ws; rows = rowsOf ws; left = sideOutputs
 unfoldable pub valuesOn : Graph → Setting → List Bool
 valuesOn g s = vertexValues not _&&_ false (false ∷ s) (g .rows)
 
--- "A table output's value is found likewise": output k of a side on a setting.
+-- The output literals of side 1 or 2.
 unfoldable pub outputs : Graph → ℕ → List ℕ
 outputs g side = cond (eqb side 1) (g .left) (g .right)
 
+-- "A table output's value is found likewise": output k of a side on a setting.
 unfoldable pub outputValue : Graph → ℕ → ℕ → Setting → Bool
 outputValue g side k s = literalValue not _&&_ false (valuesOn g s) (getD (outputs g side) k 0)
 
--- The functions of the constant and of n inputs.
+-- The functions of k vertices from vertex i on, the constant and the inputs of n being the first.
 unfoldable pub inputsFrom : ℕ → ℕ → ℕ → List Truth
 inputsFrom n i zero = []
 inputsFrom n i (suc k) = input n i ∷ inputsFrom n (suc i) k
 
+-- "Vertex 0 is constant false, vertices 1 to inputs are the inputs": their functions.
 unfoldable pub firstFunctions : ℕ → List Truth
 firstFunctions n = inputsFrom n 0 (suc n)
 
--- The functions of all vertices, and of output k of a side.
+-- The functions of all vertices.
 unfoldable pub functionsOf : Graph → List Truth
 functionsOf g = vertexValues invert conj (constantly (g .inputs) false) (firstFunctions (g .inputs)) (g .rows)
 
+-- The function of output k of a side.
 unfoldable pub outputFunction : Graph → ℕ → ℕ → Truth
 outputFunction g side k = literalValue invert conj (constantly (g .inputs) false) (functionsOf g) (getD (outputs g side) k 0)

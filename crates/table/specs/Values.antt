@@ -9,11 +9,14 @@ abbrev pub Pair : Type 0
 Pair = ℕ × ℕ
 
 module _ {A : Type 0} (invert : A → A) (both : A → A → A) (falsum : A) where
-  -- "each row an `and`": the values of the first vertices, and upwards the AND of its two literals for each row.
+  -- "each row an `and`": the AND of the values of its two literals.
+  abbrev pub rowValue : List A → Pair → A
+  rowValue vs r = both (literalValue invert both falsum vs (r .0)) (literalValue invert both falsum vs (r .1))
+
+  -- The values of the first vertices, and after them, upwards, the value of each row.
   unfoldable pub vertexValues : List A → List Pair → List A
   vertexValues vs [] = vs
-  vertexValues vs (r ∷ rs) =
-      vertexValues (vs ++ (both (literalValue invert both falsum vs (r .0)) (literalValue invert both falsum vs (r .1)) ∷ [])) rs
+  vertexValues vs (r ∷ rs) = vertexValues (vs ++ (rowValue vs r ∷ [])) rs
 
 -- A map between two domains that keeps inversion, AND and false.
 pub record Homomorphism {A B : Type 0} (invert : A → A) (both : A → A → A) (falsum : A) (invert′ : B → B) (both′ : B → B → B) (falsum′ : B)

@@ -5,7 +5,7 @@ ghost use Rattle.aig.specs.Literal.{lit};
 ghost use Rattle.table.specs.Accepted.{WellFormed};
 ghost use Rattle.table.specs.Limits.{maxAnds, maxInputs};
 ghost use Rattle.table.specs.Refusals.{firstRefusal};
-ghost use Rattle.table.specs.Table.{allBelow?, beyondLimits?, downward?, malformed?, outOfOrder?, outputsOf, pairs, rowBelow?, sideOutputs, tableTests, verticesOf};
+ghost use Rattle.table.specs.Table.{allBelow?, beyondLimits?, downward?, malformed?, outOfOrder?, outputsOf, pairs, rowAt, rowBelow?, sideOutputs, tableTests, verticesOf};
 ghost use lib.ListN.{drop, getD, length};
 ghost use mathlib.Core.Path.{_≡_};
 
@@ -49,7 +49,7 @@ fn is_malformed(words: &[u32]) -> bool
 
 fn row_below(words: &[u32], at: usize, bound: u32) -> bool
     requires { ⌜ at + 1 < length (now words) ⌝ }
-    ensures { λ r. ⌜ r ≡ rowBelow? bound (getD (now (words .entry)) at 0, getD (now (words .entry)) (at + 1) 0) ⌝ }
+    ensures { λ r. ⌜ r ≡ rowBelow? bound (rowAt (now (words .entry)) at) ⌝ }
 {
     words[at] < bound && words[at + 1] < bound
 }
