@@ -1,0 +1,11 @@
+pub mod RowsLaws
+pub mod ReferenceLaws
+pub mod DiagramLaws
+pub mod StoreLaws
+pub mod ChainLaws
+pub mod MakeLaws
+pub mod MarkLaws
+pub mod SizeLaws
+pub mod SplitLaws
+pub mod DifferenceLaws
+pub mod OwnerLaws
