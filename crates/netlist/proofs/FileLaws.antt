@@ -1,0 +1,110 @@
+-- Files and their records: the bytes of records are read as those records, and a file without malformed lines is its records' bytes.
+use mathlib.Core.Bool.{Bool, _||_, false, true}
+use mathlib.Core.List.{List, [], _++_, _∷_, append-assoc, map}
+use mathlib.Core.Path.{_≡_, ap, ap₂, refl, sym, _∙_}
+use Prim.Native.Nat.{_+_, _≤_, ℕ}
+use native.Mathlib.Omega.{arith}
+use borrow.Author.Tests.{ne-eqb}
+use lib.Dec.{eqb}
+use lib.ListN.{length}
+use Rattle.netlist.proofs.LineLaws.{records-end, records-line}
+use Rattle.netlist.proofs.RecordLaws.{Spelled, fields-lack, fields-some, gate, header, line-end, output, read-written, spelled-read, tab}
+use Rattle.netlist.specs.Limits.{edition}
+use Rattle.netlist.specs.Netlist.{AllBelow, Downward, Gate, Netlist, Within, bodyRecords, fieldsOf, gateRecord, lineBytes, linesBytes, netlistRecords}
+use Rattle.netlist.specs.Netlist as netlist
+use Rattle.netlist.specs.Records.{fieldsRecord, fileRecords, recordOf, recordsOf, unended}
+use Rattle.netlist.specs.declared.records.Record.{Record}
+use Rattle.netlist.specs.declared.records.Record.the-variants.{Malformed, Output}
+use Rattle.text.proofs.SplitLaws.{join-splitAt, splitAt-join}
+use Rattle.text.specs.Split.{anyHas, has, join, splitAt}
+use Rattle.truth.proofs.Booleans.{clash}
+
+-- Bytes that lack a separator, one after the other, lack it.
+lacks-append : (k : ℕ) (s t : List ℕ) → has k s ≡ false → has k t ≡ false → has k (s ++ t) ≡ false
+lacks-append k [] t h g = g
+lacks-append k (b ∷ bs) t h g = go (eqb b k) (λ e. lacks-append k bs t e g) h
+  where
+    go : (x : Bool) → (has k bs ≡ false → has k (bs ++ t) ≡ false) → (x || has k bs) ≡ false → (x || has k (bs ++ t)) ≡ false
+    go true f e = e
+    go false f e = f e
+
+-- So do parts joined by another byte.
+lacks-join : (k stop : ℕ) (ps : List (List ℕ)) → (stop ≡ k → ⊥) → anyHas k ps ≡ false → has k (join stop ps) ≡ false
+lacks-join k stop [] n h = refl
+lacks-join k stop (p ∷ []) n h = go (has k p) h
+  where
+    go : (x : Bool) → (x || false) ≡ false → x ≡ false
+    go true e = e
+    go false e = refl
+lacks-join k stop (p ∷ (q ∷ ps)) n h = go (has k p) refl (lacks-join k stop (q ∷ ps) n) h
+  where
+    go :
+        (x : Bool) → has k p ≡ x → (anyHas k (q ∷ ps) ≡ false → has k (join stop (q ∷ ps)) ≡ false) → (x || anyHas k (q ∷ ps)) ≡ false
+        → has k (p ++ stop ∷ join stop (q ∷ ps)) ≡ false
+    go true x f e = clash refl e
+    go false x f e = lacks-append k p (stop ∷ join stop (q ∷ ps)) x (rw (ne-eqb stop k n) (f e))
+
+-- All of some records can be held by lines.
+pub data AllSpelled : List Record → Type 0 where
+  none : AllSpelled []
+  next : {r : Record} {rs : List Record} → Spelled r → AllSpelled rs → AllSpelled (r ∷ rs)
+
+-- The line of such a record is read as that record.
+line-read : {r : Record} → Spelled r → recordOf (join 9 (fieldsOf r)) ≡ r
+unfolding recordOf fieldsOf
+line-read {r} s = go (fieldsOf r) refl
+  where
+    go : (fs : List (List ℕ)) → fieldsOf r ≡ fs → fieldsRecord (splitAt 9 (join 9 fs)) ≡ r
+    go [] e = absurd (omega (arith, fields-some s, ap length e))
+    go (f ∷ fs) e = rw (splitAt-join 9 f fs (rw e at (fields-lack tab s)), ← e) (spelled-read s)
+
+-- The bytes of records are read as these records.
+pub bytes-read : {rs : List Record} → AllSpelled rs → fileRecords (linesBytes rs) ≡ rs
+unfolding linesBytes lineBytes
+bytes-read none = records-end [] 0 (omega arith)
+bytes-read (next {r = r} {rs = rs} s t) =
+    rw append-assoc (records-line (join 9 (fieldsOf r)) (linesBytes rs) (lacks-join 10 9 (fieldsOf r) (λ e. omega arith) (fields-lack line-end s)))
+    ∙ ap₂ _∷_ (line-read s) (bytes-read t)
+
+spelled-formed : {r : Record} → Spelled r → r ≡ Malformed → ⊥
+spelled-formed (header he hi hg ho) e = let z : _≡_ {A = ℕ} 0 1 = cc in omega arith
+spelled-formed (gate hp hq) e = let z : _≡_ {A = ℕ} 0 1 = cc in omega arith
+spelled-formed (output h) e = let z : _≡_ {A = ℕ} 0 1 = cc in omega arith
+
+-- A line that is read as such a record is that record's line.
+line-written : (line : List ℕ) → Spelled (recordOf line) → line ≡ join 9 (fieldsOf (recordOf line))
+unfolding recordOf
+line-written line s = sym (join-splitAt 9 line) ∙ ap (join 9) (read-written (splitAt 9 line) (spelled-formed s) .fields)
+
+parts-written : (parts : List (List ℕ)) → AllSpelled (recordsOf parts) → join 10 parts ≡ linesBytes (recordsOf parts)
+unfolding recordsOf unended linesBytes lineBytes
+parts-written [] s = refl
+parts-written ([] ∷ []) s = refl
+parts-written ((b ∷ bs) ∷ []) (next s t) = absurd (spelled-formed s refl)
+parts-written (line ∷ (more ∷ parts)) (next s t) =
+    ap₂ (λ (l m : List ℕ). l ++ 10 ∷ m) (line-written line s) (parts-written (more ∷ parts) t)
+    ∙ sym (append-assoc (join 9 (fieldsOf (recordOf line))) (10 ∷ []) (linesBytes (recordsOf (more ∷ parts))))
+
+-- A file whose records can all be held by lines is their bytes.
+pub file-written : (bytes : List ℕ) → AllSpelled (fileRecords bytes) → bytes ≡ linesBytes (fileRecords bytes)
+unfolding fileRecords
+file-written bytes s = sym (join-splitAt 10 bytes) ∙ parts-written (splitAt 10 bytes) s
+
+-- The records of a netlist within its limits can be held by lines.
+gates-spelled :
+    {v : ℕ} {gs : List Gate} {rs : List Record} → Downward v gs → v + length gs ≤ 4161 → AllSpelled rs → AllSpelled (map gateRecord gs ++ rs)
+gates-spelled netlist.Downward.none h s = s
+gates-spelled (netlist.Downward.gate {g = g} p q d) h s =
+    next (gate {p = g .p} {q = g .q} (omega arith) (omega arith)) (gates-spelled d (omega arith) s)
+
+outputs-spelled : {n : ℕ} {os : List ℕ} → AllBelow n os → n ≤ 8322 → AllSpelled (map Output os)
+outputs-spelled netlist.AllBelow.none h = none
+outputs-spelled (netlist.AllBelow.next {r = r} l b) h = next (output {r = r} (omega arith)) (outputs-spelled b h)
+
+pub within-spelled : {d : Netlist} → Within d → AllSpelled (netlistRecords d)
+unfolding netlistRecords bodyRecords
+within-spelled {d} w =
+    next
+    (header {e = edition} {i = d .inputs} {g = length (d .gates)} {o = length (d .outputs)}
+    (omega arith) (omega (arith, w .inputs)) (omega (arith, w .gates)) (omega (arith, w .outputs)))
+    (gates-spelled (w .downward) (omega (arith, w .inputs, w .gates)) (outputs-spelled (w .below) (omega (arith, w .inputs, w .gates))))

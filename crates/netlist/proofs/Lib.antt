@@ -1,0 +1,10 @@
+pub mod CheckLaws
+pub mod Choices
+pub mod FileLaws
+pub mod LineLaws
+pub mod MeaningLaws
+pub mod PassingLaws
+pub mod ReadLaws
+pub mod RecordLaws
+pub mod StepLaws
+pub mod ValueLaws

@@ -1,0 +1,93 @@
+-- The invariant: the check of the lines ahead, by what is due and its number, gives the answer for the file.
+-- The measure is what is left of the file: each line that is passed has an end byte.
+use mathlib.Core.Path.{_∙_}
+use Prim.Native.Nat.{_-_}
+use native.Mathlib.Omega.{arith}
+use borrow.Author.Needs.{needs}
+use lib.ListN.{length}
+use Rattle.netlist.proofs.PassingLaws.{Ahead, ahead-begins, ahead-ended, ahead-ends, ahead-next, ahead-refuses, line-few, stepped}
+use Rattle.netlist.proofs.check.check_file.Statement.{statement}
+use Rattle.netlist.proofs.check.check_file.Tie as tie
+
+abbrev Inv-loop : tie.InvT-loop
+Inv-loop file start at₀ line₀ due₀ at line due = Ahead file start at line due
+
+abbrev μ-loop : tie.MeasureT-loop
+μ-loop file start at₀ line₀ due₀ at line due = length file - at
+
+until-requires : tie.Need-until-requires Inv-loop μ-loop
+until-requires c κs = search needs
+
+add-start : tie.Need-add-start Inv-loop μ-loop
+add-start c = search needs
+
+loop-holds : tie.Need-loop-holds Inv-loop μ-loop
+loop-holds c = ahead-begins _ _ (c .until .ensures)
+
+next-record-requires : tie.Need-next-record-requires Inv-loop μ-loop
+next-record-requires c κs = search needs
+
+step-requires : tie.Need-step-requires Inv-loop μ-loop
+step-requires c κs = c .before .before .loop .inv .held
+
+enum-known-stepped : tie.Need-enum-known-stepped Inv-loop μ-loop
+enum-known-stepped c = search needs
+
+returns : tie.Need-returns Inv-loop μ-loop
+returns c =
+    let stepping = c .before .before .before in
+    let loop = stepping .before .before .before .loop in
+    let test = stepping .before .before .loop-test in
+    ahead-refuses (loop .inv) (test .taken) _ (stepped (loop .due) (stepping .step .ensures) (stepping .before .next-record .ensures) (c .before .stepped .given .1))
+
+enum-known-stepped-2 : tie.Need-enum-known-stepped-2 Inv-loop μ-loop
+enum-known-stepped-2 c = search needs
+
+line-end-requires : tie.Need-line-end-requires Inv-loop μ-loop
+line-end-requires c κs =
+    let stepping = c .before .before .before in
+    let loop = stepping .before .before .before .loop in
+    let test = stepping .before .before .loop-test in
+    ahead-ended (loop .inv) (test .taken) _ (stepped (loop .due) (stepping .step .ensures) (stepping .before .next-record .ensures) (c .before .stepped2 .given .1))
+
+add-line : tie.Need-add-line Inv-loop μ-loop
+add-line c =
+    let loop = c .before .before .before .before .before .before .before .loop in
+    omega (arith, loop .inv .number, line-few (loop .inv .held))
+
+loop-less : tie.Need-loop-less Inv-loop μ-loop
+loop-less c = omega (arith, c .line-end .ensures, c .before .before .before .before .before .before .loop-test .taken)
+
+loop-again : tie.Need-loop-again Inv-loop μ-loop
+loop-again c =
+    let stepping = c .before .before .before .before in
+    let loop = stepping .before .before .before .loop in
+    let test = stepping .before .before .loop-test in
+    rw (c .line-end .ensures) (ahead-next (loop .inv) (test .taken) _ (stepped (loop .due) (stepping .step .ensures) (stepping .before .next-record .ensures) (c .before .before .stepped2 .given .1)))
+
+ended-requires : tie.Need-ended-requires Inv-loop μ-loop
+ended-requires c κs = search needs
+
+returns-2 : tie.Need-returns-2 Inv-loop μ-loop
+returns-2 c = c .ended .ensures ∙ ahead-ends (c .before .before .loop .inv) (c .before .loop-test .left)
+
+pub check-file-spec : {M : Type 1} → statement M
+check-file-spec =
+    tie.close
+    (tie.spec
+    Inv-loop
+    μ-loop
+    until-requires
+    add-start
+    loop-holds
+    next-record-requires
+    step-requires
+    enum-known-stepped
+    returns
+    enum-known-stepped-2
+    line-end-requires
+    add-line
+    loop-less
+    loop-again
+    ended-requires
+    returns-2)

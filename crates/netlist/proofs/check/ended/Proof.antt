@@ -1,0 +1,34 @@
+-- Each return is one case of the end of a file; no loop.
+-- All counts are reached at the last return.
+use mathlib.Core.Path.{refl, sym}
+use borrow.Author.Needs.{needs}
+use Rattle.netlist.proofs.StepLaws.{finish-all, finish-missing}
+use Rattle.netlist.proofs.check.ended.Statement.{statement}
+use Rattle.netlist.proofs.check.ended.Tie as tie
+use Rattle.netlist.specs.Check.{finish}
+
+enum-known-due : tie.Need-enum-known-due
+enum-known-due c = search needs
+
+enum-told : tie.Need-enum-told
+enum-told c = search needs
+
+returns : tie.Need-returns
+unfolding finish
+returns c = rw (c .enum-told .given .1) refl
+
+returns-2 : tie.Need-returns-2
+returns-2 c = rw (c .before .before .before .due .given .1) (sym (finish-missing _ _ _ (λ d. c .if1 .taken (d .gates))))
+
+returns-3 : tie.Need-returns-3
+returns-3 c =
+    let at1 = c .before .before in
+    rw (at1 .before .before .before .due .given .1) (sym (finish-missing _ _ _ (λ d. c .if2 .taken (d .outputs))))
+
+returns-4 : tie.Need-returns-4
+returns-4 c =
+    let at1 = c .before .before in
+    rw (at1 .before .before .before .due .given .1) (sym (finish-all _ _ _ (record { gates = at1 .if1 .left; outputs = c .if2 .left })))
+
+pub ended-spec : {M : Type 1} → statement M
+ended-spec = tie.close (tie.spec enum-known-due enum-told returns returns-2 returns-3 returns-4)

@@ -1,0 +1,58 @@
+-- Each return is one case of the step, by the tests that led there; no loop.
+-- The counts stay within their limits, so that no sum passes its type.
+use mathlib.Core.Path.{sym}
+use native.Mathlib.Omega.{arith}
+use borrow.Author.Needs.{needs}
+use Rattle.netlist.proofs.StepLaws.{ands-few, gate-beyond, gate-extra, gate-next}
+use Rattle.netlist.proofs.check.gate_step.Statement.{statement}
+use Rattle.netlist.proofs.check.gate_step.Tie as tie
+
+returns : tie.Need-returns
+returns c = sym (gate-extra _ _ _ _ (c .if1 .taken))
+
+add-bound : tie.Need-add-bound
+add-bound c = search needs
+
+add-bound-2 : tie.Need-add-bound-2
+add-bound-2 c = search needs
+
+mul-bound : tie.Need-mul-bound
+mul-bound c = search needs
+
+returns-2 : tie.Need-returns-2
+returns-2 c = sym (gate-beyond _ _ _ _ (c .before .before .before .if1 .left) (λ f. omega (arith, f .left, c .if2 .taken)))
+
+returns-3 : tie.Need-returns-3
+returns-3 c = sym (gate-beyond _ _ _ _ (c .before .before .before .before .if1 .left) (λ f. omega (arith, f .right, c .if3 .taken)))
+
+add-t8 : tie.Need-add-t8
+add-t8 c = search needs
+
+ands-of-requires : tie.Need-ands-of-requires
+ands-of-requires c κs = search needs
+
+add-t9 : tie.Need-add-t9
+add-t9 c =
+    let op = c .before .before .before .before .before .before .before .before .before .args .op in
+    omega (arith, c .before .ands-of .ensures, ands-few op)
+
+returns-4 : tie.Need-returns-4
+returns-4 c =
+    let at1 = c .before .before .before .before .before .before .before in
+    rw (c .before .ands-of .ensures)
+    (sym (gate-next _ _ _ _ (record { room = at1 .if1 .left; left = search needs; right = search needs })))
+
+pub gate-step-spec : {M : Type 1} → statement M
+gate-step-spec =
+    tie.close
+    (tie.spec
+    returns
+    add-bound
+    add-bound-2
+    mul-bound
+    returns-2
+    returns-3
+    add-t8
+    ands-of-requires
+    add-t9
+    returns-4)

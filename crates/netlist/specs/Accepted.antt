@@ -1,0 +1,26 @@
+-- What an accepted file holds.
+use mathlib.Core.List.{List}
+use mathlib.Core.Path.{_≡_}
+use Prim.Native.Nat.{_+_, _≤_, ℕ}
+use lib.ListN.{drop, length}
+use Rattle.netlist.specs.Check.{read, readNetlist}
+use Rattle.netlist.specs.Meaning.{andCount}
+use Rattle.netlist.specs.Netlist.{Netlist, Within, bodyRecords, bytesOf, netlistRecords}
+use Rattle.netlist.specs.Records.{fileRecords}
+use Rattle.netlist.specs.declared.check.Summary.{Summary}
+use Rattle.text.specs.Split.{upTo}
+
+-- The counts of a netlist whose gate lines start at a place.
+abbrev pub summaryOf : ℕ → Netlist → Summary
+summaryOf start d =
+    record { inputs = d .inputs; gates = length (d .gates); outputs = length (d .outputs); ands = andCount (d .gates); start = start }
+
+-- A file with a summary holds a netlist: it is read as that netlist, is its bytes, keeps the limits, and its gate lines start after line 1.
+pub record Holds (bytes : List ℕ) (s : Summary) (d : Netlist) : Type 0 where
+  pub reads : readNetlist bytes ≡ read d
+  pub file : bytes ≡ bytesOf d
+  pub within : Within d
+  pub counts : s ≡ summaryOf (length (upTo 10 bytes) + 1) d
+  pub records : fileRecords bytes ≡ netlistRecords d
+  pub inside : s .start ≤ length bytes
+  pub body : fileRecords (drop (s .start) bytes) ≡ bodyRecords d

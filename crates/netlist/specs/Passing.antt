@@ -1,0 +1,36 @@
+-- What holds while a file is passed line by line.
+use mathlib.Core.Bool.{cond}
+use mathlib.Core.List.{List}
+use Prim.Native.Nat.{_*_, _+_, _≤_, ℕ}
+use Rattle.netlist.specs.Limits.{maxGates}
+use Rattle.netlist.specs.Records.{recordOf}
+use Rattle.netlist.specs.declared.check.Body.{Body}
+use Rattle.netlist.specs.declared.check.Due.{Due}
+use Rattle.netlist.specs.declared.check.Due.the-variants.{First, Later}
+use Rattle.netlist.specs.declared.records.Record.{Record}
+use Rattle.netlist.specs.declared.records.Record.the-variants.{Malformed}
+use Rattle.table.specs.Limits.{maxInputs, maxOutputs}
+use Rattle.text.specs.Split.{has, upTo}
+
+-- The record of the first of some bytes' lines: "2. The line is not an N, G or O record of this layout or has no end byte."
+unfoldable pub lineRecord : List ℕ → Record
+lineRecord bytes = cond (has 10 bytes) (recordOf (upTo 10 bytes)) Malformed
+
+-- The counts of line 1 within their limits, and those kept within them.
+pub record Counted (b : Body) : Type 0 where
+  pub inputs : b .inputs ≤ maxInputs
+  pub gates : b .gates ≤ maxGates
+  pub outputs : b .outputs ≤ maxOutputs
+  pub gate : b .gate ≤ b .gates
+  pub output : b .output ≤ b .outputs
+  pub ands : b .ands ≤ 3 * b .gate
+
+-- The same of what is due.
+pub data Held : Due → Type 0 where
+  at-first : Held First
+  at-later : {b : Body} → Counted b → Held (Later b)
+
+-- The number of the line that is due.
+unfoldable pub lineDue : Due → ℕ
+lineDue First = 1
+lineDue (Later b) = 2 + b .gate + b .output
