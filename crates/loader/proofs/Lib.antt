@@ -1,0 +1,13 @@
+pub mod AndLaws
+pub mod AskLaws
+pub mod Cards
+pub mod FromLaws
+pub mod GateLaws
+pub mod GrownLaws
+pub mod LoadLaws
+pub mod MeaningLaws
+pub mod PairLaws
+pub mod PairMeaningLaws
+pub mod RowLaws
+pub mod TableLaws
+pub mod ValueLaws

@@ -1,0 +1,4 @@
+pub mod Examples
+pub mod LineLaws
+pub mod ReportLaws
+pub mod StoredLaws
