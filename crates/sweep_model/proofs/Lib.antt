@@ -13,4 +13,12 @@ pub mod Induction
 pub mod Bound
 pub mod Kept
 pub mod Right
+pub mod Marked
+pub mod Inputs
+pub mod Products
+pub mod Apart
+pub mod Accounts
+pub mod Reachable
+pub mod Replies
+pub mod ReplyLaws
 pub mod Example

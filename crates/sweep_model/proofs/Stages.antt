@@ -9,7 +9,7 @@ use native.Mathlib.Omega.{arith}
 use lib.ListN.{List·getD-eq-default, length, length-set}
 use lib.Seq.{getD-set-other, getD-set-same}
 use Rattle.sweep_model.specs.Normalise.{wake, wakeAt}
-use Rattle.sweep_model.specs.State.{Stage, again, bare, bare?, dropped, gone, gone?, has?, open?, opened, stageOf, waiting, waits?}
+use Rattle.sweep_model.specs.State.{Stage, again, bare, bare?, dropped, dropped?, gone, gone?, has?, open?, opened, stageOf, waiting, waits?}
 use Rattle.truth.proofs.Booleans.{clash}
 
 -- Only a merged vertex passes the test of one.
@@ -46,6 +46,16 @@ has-not-gone gone e = sym e
 pub bare-lacks : (x : Stage) → bare? x ≡ true → has? x ≡ false
 unfolding has?
 bare-lacks x e = ap has? (bare-is x e)
+
+-- A dropped vertex has no diagram.
+pub dropped-lacks : (x : Stage) → dropped? x ≡ true → has? x ≡ false
+unfolding dropped? has?
+dropped-lacks bare e = refl
+dropped-lacks waiting e = sym e
+dropped-lacks opened e = sym e
+dropped-lacks again e = sym e
+dropped-lacks dropped e = refl
+dropped-lacks gone e = refl
 
 -- A bare vertex was not merged.
 pub bare-not-gone : (x : Stage) → bare? x ≡ true → gone? x ≡ false

@@ -118,7 +118,7 @@ swept-steady s b v nonzero alive h =
       tidy = h .tidy;
       moved = h .moved;
       staged = staged-set h v alive waiting nonzero refl;
-      marked = length-set (s .marks) v 1 ∙ h .marked;
+      marked = simp length-set (h .marked);
     }
 
 -- A vertex dropped.
@@ -132,7 +132,7 @@ dropped-steady s b v nonzero alive h =
       tidy = h .tidy;
       moved = h .moved;
       staged = staged-set h v alive dropped nonzero refl;
-      marked = length-set (s .marks) v 2 ∙ h .marked;
+      marked = simp length-set (h .marked);
     }
 
 -- The constant does not wait.

@@ -9,6 +9,8 @@ use lib.ListN.{drop, getD, length}
 use Rattle.aig.specs.Literal.{vertexOf}
 use Rattle.aig.specs.Lookup.{firstWord, secondWord}
 use Rattle.sweep_model.specs.State.{Problem, literalFunction}
+use Rattle.sweep_model.specs.Sweep.{Verdict, undecided}
+use Rattle.sweep_model.specs.declared.Cause.the-variants.{Rows, Steps}
 use Rattle.truth.specs.Parts.{together}
 use Rattle.truth.specs.Steps.{steps}
 use Rattle.truth.specs.Truth.{Truth, conj}
@@ -64,6 +66,11 @@ stepsMarked p rows marks = sum (map andSteps (marked (isEither 1 2) (drop (p .fi
 abbrev pub stepsMarkedWithLast : Problem → List ℕ → List ℕ → ℕ
 stepsMarkedWithLast p rows marks =
     sum (map andSteps (marked (λ m. isEither 1 2 m || is 3 m) (drop (p .first) marks) (andsOf p rows)))
+
+-- "3 the vertex named by Rows or Steps"
+pub data Names : Verdict → ℕ → Type 0 where
+  by-rows : {v : ℕ} → Names (undecided (Rows v)) v
+  by-steps : {v : ℕ} → Names (undecided (Steps v)) v
 
 -- The conditions after Size and Idle, on count vertices of which some come first: marks and rows as a reply left them, and the rows by
 -- which operands are read.

@@ -155,7 +155,8 @@ size-skip f =
     distinct-same alike? alike-sameness (parts (node f f)) (parts f)
     (λ t. ap (among alike? t) (parts-node f f ∙ rw (same-reflexive f)) ∙ among-append alike? t (parts f) (parts f) ∙ or-self (among alike? t (parts f)))
 
-constants-differ : (n : ℕ) → same? (constantly n false) (constantly n true) ≡ false
+-- The two constants differ.
+pub constants-differ : (n : ℕ) → same? (constantly n false) (constantly n true) ≡ false
 unfolding constantly same?
 constants-differ zero = refl
 constants-differ (suc n) = rw (constants-differ n)

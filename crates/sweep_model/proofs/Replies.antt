@@ -1,0 +1,290 @@
+-- Rows, steps and marks after every reply.
+use mathlib.Core.Bool.{Bool, _||_, cond, false, or-false, true}
+use mathlib.Core.List.{List, [], _∷_, map}
+use mathlib.Core.Logic.{_↔_, _≢_, _⊎_, inl, inr, ⊎-elim}
+use mathlib.Core.Path.{_∙_, _≡_, ap, refl, sym}
+use Prim.Native.Nat.{_+_, _<_, _≤_, suc, ℕ}
+use native.Mathlib.Decide.{decLt, ℕ-discrete}
+use native.Mathlib.Omega.{arith}
+use lib.Dec.{eqb}
+use lib.ListN.{List·getD-eq-default, drop, getD, length, set}
+use lib.Seq.{getD-drop, getD-set-other, getD-set-same}
+use borrow.Author.Tests.{ne-eqb}
+use Rattle.product_model.proofs.Cases.{impossible}
+use Rattle.product_model.proofs.Ran.{Proper, ShortOfRows, ShortOfSteps, Stored, is-short-of-rows, is-short-of-steps}
+use Rattle.product_model.proofs.Store.{Holds, rows-together}
+use Rattle.product_model.specs.Run.{Book, shortOfRows, shortOfSteps}
+use Rattle.sweep_model.proofs.Accounts.{Accounted, MarkFits, fits-now, holds-now}
+use Rattle.sweep_model.proofs.Apart.{AllStored, Apart}
+use Rattle.sweep_model.proofs.Choices.{pick-waits}
+use Rattle.sweep_model.proofs.Induction.{Keeps}
+use Rattle.sweep_model.proofs.Inputs.{input-row-ran}
+use Rattle.sweep_model.proofs.Marked.{andAt, ands-put, marked-among, marked-put, marked-same, sum-inserted, together-inserted}
+use Rattle.sweep_model.proofs.Products.{product-ran}
+use Rattle.sweep_model.proofs.Reachable.{InputsMarked, Reachable, StageFits, begin-reachable, dropped-reachable, due-entry, due-inputs, due-nonzero, due-unmarked, input-reachable, merged-reachable, opened-reachable, product-reachable}
+use Rattle.sweep_model.proofs.Stages.{bare-lacks}
+use Rattle.sweep_model.proofs.Steady.{Due, Giving, Scanning, Steady, due-within, inputRow, productOf}
+use Rattle.sweep_model.proofs.Tidy.{first-unmerged}
+use Rattle.sweep_model.specs.Claims.{And, Names, andSteps, andsOf, by-rows, by-steps, is, isEither, marked, rowsMarkedWithLast, stepsMarked, stepsMarkedWithLast, sum}
+use Rattle.sweep_model.specs.Fit.{Fit, vertexCount}
+use Rattle.sweep_model.specs.Normalise.{wasMerged?}
+use Rattle.sweep_model.specs.State.{Problem, Stage, State, bare?, dropped?, functionOf, has?, stageOf, withBook, withMark}
+use Rattle.sweep_model.specs.Sweep.{Verdict, anyDropped?, cause, different, equal, givenBack, undecided}
+use Rattle.sweep_model.specs.declared.Cause.{Cause}
+use Rattle.sweep_model.specs.declared.Cause.the-variants.{Idle, Rows, Size, Steps}
+use Rattle.truth.proofs.Booleans.{clash, or-cases}
+use Rattle.truth.proofs.Parts.{alike-sameness}
+use Rattle.truth.proofs.Together.{part-all}
+use Rattle.truth.specs.Parts.{alike?, parts, together}
+use Rattle.truth.specs.Truth.{Truth, constantly}
+
+-- What a verdict says of rows and steps: the steps of the ANDs marked 1 or 2; or a limit that was passed.
+pub data Spent (p : Problem) (entry marks : List ℕ) (book : Book) : Verdict → Type 0 where
+  in-full : {x : Verdict} → ((v : ℕ) → Names x v → ⊥) → book .steps ≡ stepsMarked p entry marks → Spent p entry marks book x
+  no-row : {v : ℕ} → p .limits .rows < rowsMarkedWithLast p marks → Spent p entry marks book (undecided (Rows v))
+  no-step : {v : ℕ} → book .steps ≡ p .limits .steps → p .limits .steps < stepsMarkedWithLast p entry marks → Spent p entry marks book (undecided (Steps v))
+
+-- Some vertex is marked 2.
+abbrev pub SomeLarge : Problem → List ℕ → Type 0
+SomeLarge p marks = (v : ℕ) × (v < vertexCount p) × (getD marks v 0 ≡ 2)
+
+-- What holds of a verdict and of the state that it leaves.
+pub record Ended (p : Problem) (entry : List ℕ) (x : Verdict) (s : State) : Type 0 where
+  pub proper : Proper (p .limits .rows) (p .limits .steps) (s .book)
+  pub holds : Holds (s .book) (marked (is 1) (s .marks) (p .functions))
+  pub spent : Spent p entry (s .marks) (s .book) x
+  pub stored : AllStored p (s .stages) (s .book .store)
+  pub apart : Apart p (s .stages)
+  pub fits : (v : ℕ) → MarkFits p entry v (getD (s .marks) v 0)
+  pub three : (v : ℕ) → Names x v ↔ (getD (s .marks) v 0 ≡ 3)
+  pub inputs : (v : ℕ) → 1 ≤ v → v < p .first → (getD (s .marks) v 0 ≡ 1) ↔ (has? (stageOf (s .stages) v) ≡ true)
+  pub inputs-first : (v : ℕ) → p .first ≤ v → getD (s .marks) v 0 ≢ 0 → InputsMarked p (s .marks)
+  pub all-inputs : (c : Cause) → x ≡ undecided c → ((v : ℕ) → c ≡ Rows v → p .first ≤ v) → InputsMarked p (s .marks)
+  pub some-large : x ≡ undecided Size → SomeLarge p (s .marks)
+
+-- A verdict names one vertex at most.
+names-one : {x : Verdict} {u v : ℕ} → Names x u → Names x v → u ≡ v
+names-one by-rows by-rows = refl
+names-one by-steps by-steps = refl
+
+-- An input is marked 1 exactly where it has a diagram.
+input-marked : {p : Problem} {v : ℕ} {x : Stage} {m : ℕ} → StageFits p v x m → 1 ≤ v → v < p .first → (m ≡ 1) ↔ (has? x ≡ true)
+input-marked {x = x} {m = m} f l h = go (has? x) (f .input l h)
+  where
+    go : (b : Bool) → m ≡ cond b 1 0 → (m ≡ 1) ↔ (b ≡ true)
+    go true e = (λ i. refl, λ i. e)
+    go false e = (λ i. absurd (omega arith), λ i. clash i refl)
+
+-- A dropped vertex among the stages.
+some-dropped : (stages : List Stage) → anyDropped? stages ≡ true → (v : ℕ) × (v < length stages) × (dropped? (stageOf stages v) ≡ true)
+unfolding anyDropped?
+some-dropped [] e = clash e refl
+some-dropped (x ∷ stages) e =
+    ⊎-elim (λ i. (0, omega arith, i)) (λ i. let d = some-dropped stages i in (suc (d .0), omega (arith, d .1), d .2)) (or-cases (dropped? x) (anyDropped? stages) e)
+
+-- A vertex marked 1 has its rows.
+pub marked-stored :
+    (p : Problem) (marks : List ℕ) (book : Book) → length marks ≡ vertexCount p → Holds book (marked (is 1) marks (p .functions)) → (v : ℕ)
+    → getD marks v 0 ≡ 1 → Stored (functionOf p v) (book .store)
+marked-stored p marks book long H v e t k =
+    H .members t
+    ∙ part-all t (functionOf p v) (marked (is 1) marks (p .functions))
+    (marked-among (is 1) alike? alike-sameness marks (p .functions) v (constantly (p .inputs) false) (ap (is 1) e) inside (omega (arith, inside))) k
+  where
+    inside : v < length marks
+    inside =
+        elim (decLt v (length marks)) [
+          | yes h ↦ h
+          | no h ↦ (let l : length marks ≤ v = omega arith in absurd (omega (arith, List·getD-eq-default marks 0 l)))
+        ]
+
+module _ {p : Problem} {entry marks : List ℕ} {book : Book} (a : Accounted p entry marks book) (long : length marks ≡ vertexCount p) (v : ℕ)
+    (within : v < vertexCount p) (unmarked : getD marks v 0 ≡ 0) where
+  -- The rows with the vertex marked 3.
+  last-rows : together (functionOf p v ∷ marked (is 1) marks (p .functions)) ≡ rowsMarkedWithLast p (set marks v 3)
+  last-rows =
+      ap (λ (fs : List Truth). together (functionOf p v ∷ fs))
+      (sym (marked-same (isEither 1 3) (is 1) marks (p .functions) (λ u. rw (ne-eqb (getD marks u 0) 3 (a .unnamed u)) (or-false (eqb (getD marks u 0) 1)))))
+      ∙ sym (together-inserted (marked-put (isEither 1 3) 3 refl marks (p .functions) v (constantly (p .inputs) false) (ap (isEither 1 3) unmarked) (omega arith) within))
+
+  -- The steps with the vertex marked 3.
+  last-steps : p .first ≤ v → stepsMarkedWithLast p entry (set marks v 3) ≡ book .steps + andSteps (andAt p entry v)
+  last-steps made =
+      omega (
+        arith,
+        a .steps,
+        ap (λ (xs : List And). sum (map andSteps xs))
+            (marked-same (λ m. isEither 1 2 m || is 3 m) (isEither 1 2) (drop (p .first) marks) (andsOf p entry)
+            (λ i. rw (getD-drop (p .first) marks i 0, ne-eqb (getD marks (p .first + i) 0) 3 (a .unnamed (p .first + i)))
+            (or-false (isEither 1 2 (getD marks (p .first + i) 0))))),
+        sum-inserted andSteps
+            (ands-put p entry (λ m. isEither 1 2 m || is 3 m) marks long v 3 made (ap (λ m. isEither 1 2 m || is 3 m) unmarked) within refl),
+      )
+
+module _ {p : Problem} {entry : List ℕ} where
+  -- A verdict that names no vertex.
+  settled :
+      (x : Verdict) (s : State) → Reachable p entry s → ((v : ℕ) → Names x v → ⊥)
+      → ((c : Cause) → x ≡ undecided c → ((v : ℕ) → c ≡ Rows v → p .first ≤ v) → InputsMarked p (s .marks)) → (x ≡ undecided Size → SomeLarge p (s .marks))
+      → Ended p entry x s
+  settled x s r nameless all large =
+      record {
+        proper = r .accounted .proper;
+        holds = r .accounted .holds;
+        spent = in-full nameless (r .accounted .steps);
+        stored = r .stored;
+        apart = r .apart;
+        fits = r .accounted .fits;
+        three = λ v. (λ n. absurd (nameless v n), λ e. absurd (r .accounted .unnamed v e));
+        inputs = λ v l h. input-marked (r .fits v) l h;
+        inputs-first = r .inputs-first;
+        all-inputs = all;
+        some-large = large;
+      }
+
+  -- Equal and Different.
+  pub decided-ends : (x : Verdict) (s : State) → Reachable p entry s → ((c : Cause) → x ≡ undecided c → ⊥) → Ended p entry x s
+  decided-ends x s r decided =
+      settled x s r (λ v n. unnamed n decided) (λ c e h. absurd (decided c e)) (λ e. absurd (decided Size e))
+    where
+      unnamed : {x : Verdict} {v : ℕ} → Names x v → ((c : Cause) → x ≡ undecided c → ⊥) → ⊥
+      unnamed {v = v} by-rows d = d (Rows v) refl
+      unnamed {v = v} by-steps d = d (Steps v) refl
+
+  -- A verdict that names a vertex without a mark, which is marked 3.
+  module _ (s : State) (r : Reachable p entry s) (v : ℕ) (within : v < vertexCount p) (nonzero : v ≢ 0) (is-bare : bare? (stageOf (s .stages) v) ≡ true)
+      (unmerged : wasMerged? (p .first) entry v ≡ false) where
+    unmarked : getD (s .marks) v 0 ≡ 0
+    unmarked = r .fits v .bare-unmarked is-bare
+
+    named :
+        (x : Verdict) (steps : ℕ) → Names x v → (p .first ≤ v → InputsMarked p (set (s .marks) v 3)) → steps ≤ p .limits .steps
+        → Spent p entry (set (s .marks) v 3) (record { store = s .book .store; steps = steps }) x
+        → ((c : Cause) → x ≡ undecided c → ((v : ℕ) → c ≡ Rows v → p .first ≤ v) → InputsMarked p (set (s .marks) v 3)) → (x ≡ undecided Size → ⊥)
+        → Ended p entry x (withMark v 3 (withBook (record { store = s .book .store; steps = steps }) s))
+    named x steps n made few spent all large =
+        record {
+          proper = record { no-repeats = r .accounted .proper .no-repeats; rows = r .accounted .proper .rows; taken = few };
+          holds = record { members = holds-now (r .accounted) (r .steady .marked) v within unmarked 3 refl .members };
+          spent = spent;
+          stored = r .stored;
+          apart = r .apart;
+          fits =
+              fits-now (r .accounted) (r .steady .marked) v within unmarked 3
+              (record {
+                known = omega arith;
+                constant = λ e. absurd (nonzero e);
+                made = λ e. absurd (omega arith);
+                large = λ e. absurd (omega arith);
+                small = λ e. absurd (omega arith);
+                unmerged = λ e. unmerged;
+              });
+          three = λ u. (
+            λ m. ap (λ (y : ℕ). getD (set (s .marks) v 3) y 0) (names-one m n) ∙ getD-set-same (s .marks) v 3 0 inside,
+            λ e. elim (ℕ-discrete u v) [ yes i ↦ rw i n | no i ↦ absurd (r .accounted .unnamed u (sym (getD-set-other (s .marks) v u 3 0 i) ∙ e)) ],
+          );
+          inputs = λ u l h.
+              elim (ℕ-discrete u v) [
+                | yes i ↦ rw (i, getD-set-same (s .marks) v 3 0 inside)
+                    (λ e. absurd (omega arith), λ e. clash e (bare-lacks (stageOf (s .stages) v) is-bare))
+                | no i ↦ rw (getD-set-other (s .marks) v u 3 0 i) (input-marked (r .fits u) l h)
+              ];
+          inputs-first = λ u l d.
+              elim (decLt v (p .first)) [
+                | yes h ↦ absurd
+                    (omega
+                    (arith, r .inputs-first u l (λ e. d (getD-set-other (s .marks) v u 3 0 (λ i. omega arith) ∙ e)) v (omega (arith, nonzero)) h, unmarked))
+                | no h ↦ made (omega arith)
+              ];
+          all-inputs = all;
+          some-large = λ e. absurd (large e);
+        }
+      where
+        inside : v < length (s .marks)
+        inside = omega (arith, r .steady .marked)
+
+module _ {p : Problem} {entry : List ℕ} (fit : Fit p entry) where
+  module _ {n k : ℕ} {s : State} (c : Scanning p n k s) (r : Reachable p entry s) where
+    -- During a scan all inputs are marked 1.
+    scanning-inputs : InputsMarked p (s .marks)
+    scanning-inputs v l h = input-marked (r .fits v) l h .1 (c .first-have v h)
+
+  module _ {n v : ℕ} {s : State} (due : Due p entry n v s) (r : Reachable p entry s) where
+    -- A product short of rows.
+    row-ends : (b : Book) → productOf p v s ≡ shortOfRows b → Ended p entry (undecided (Rows v)) (withMark v 3 (withBook (givenBack (s .book) b) s))
+    row-ends b e =
+        named s r v (due-within due) (due-nonzero fit due r) (due .is-bare) (due-entry fit due r) (undecided (Rows v)) (b .steps) by-rows (λ l. due-inputs fit due r 3) (R .grown .proper .taken)
+        (no-row
+        (rw (← (last-rows (r .accounted) (r .steady .marked) v (due-within due) (due-unmarked fit due r))) (rows-together (functionOf p v) (r .accounted .holds) R)))
+        (λ c i h. due-inputs fit due r 3) (λ i. impossible (cc))
+      where
+        R : ShortOfRows (p .limits .rows) (p .limits .steps) (parts (functionOf p v)) 1 (andSteps (andAt p entry v)) (s .book) b
+        R = is-short-of-rows (product-ran fit due (r .stored) (r .accounted .proper)) e
+
+    -- A product short of steps.
+    step-ends : (b : Book) → productOf p v s ≡ shortOfSteps b → Ended p entry (undecided (Steps v)) (withMark v 3 (withBook (givenBack (s .book) b) s))
+    step-ends b e =
+        named s r v (due-within due) (due-nonzero fit due r) (due .is-bare) (due-entry fit due r) (undecided (Steps v)) (b .steps) by-steps (λ l. due-inputs fit due r 3) (S .grown .proper .taken)
+        (no-step (S .full)
+        (rw (last-steps (r .accounted) (r .steady .marked) v (due-within due) (due-unmarked fit due r) (due .made)) (S .over)))
+        (λ c i h. due-inputs fit due r 3) (λ i. impossible (cc))
+      where
+        S : ShortOfSteps (p .limits .rows) (p .limits .steps) (parts (functionOf p v)) (andSteps (andAt p entry v)) (s .book) b
+        S = is-short-of-steps (product-ran fit due (r .stored) (r .accounted .proper)) e
+
+  -- An input short of its row.
+  input-ends :
+      (v : ℕ) (b : Book) (s : State) → Giving p v s → 1 ≤ v → v < p .first → inputRow p v s ≡ shortOfRows b → Reachable p entry s
+      → Ended p entry (undecided (Rows v)) (withMark v 3 s)
+  unfolding bare?
+  input-ends v b s g l h e r =
+      named s r v within (λ i. omega arith) is-bare (first-unmerged (p .first) entry v h) (undecided (Rows v)) (s .book .steps) by-rows (λ l. absurd (omega arith)) (r .accounted .proper .taken)
+      (no-row
+      (rw (← (last-rows (r .accounted) (r .steady .marked) v within (r .fits v .bare-unmarked is-bare))) (rows-together (functionOf p v) (r .accounted .holds) R)))
+      (λ c i k. let j : c ≡ Rows v = cc in absurd (omega (arith, k v j))) (λ i. impossible (cc))
+    where
+      within : v < vertexCount p
+      within = omega (arith, fit .well-formed .first-within)
+
+      is-bare : bare? (stageOf (s .stages) v) ≡ true
+      is-bare = ap bare? (g .later v l (omega arith) h)
+
+      R : ShortOfRows (p .limits .rows) (p .limits .steps) (parts (functionOf p v)) 0 0 (s .book) b
+      R = is-short-of-rows (input-row-ran (fit .well-formed) s (r .accounted .proper) v l h) e
+
+  -- None waits.
+  rest-ends : {n : ℕ} (s : State) → Steady p entry s → Scanning p n (vertexCount p) s → Reachable p entry s → Ended p entry (undecided (cause s)) s
+  unfolding cause
+  rest-ends s h c r = go (anyDropped? (s .stages)) refl
+    where
+      unnamed : {x : Cause} {v : ℕ} → Names (undecided x) v → (x ≡ Size) ⊎ (x ≡ Idle) → ⊥
+      unnamed by-rows i = ⊎-elim (λ j. impossible (cc)) (λ j. impossible (cc)) i
+      unnamed by-steps i = ⊎-elim (λ j. impossible (cc)) (λ j. impossible (cc)) i
+
+      go : (b : Bool) → anyDropped? (s .stages) ≡ b → Ended p entry (undecided (cond b Size Idle)) s
+      go true e =
+          settled (undecided Size) s r (λ v m. unnamed m (inl refl)) (λ x i k. scanning-inputs c r)
+          (λ i. let d = some-dropped (s .stages) e in (d .0, omega (arith, d .1, h .staged .long), r .fits (d .0) .dropped-two (d .2)))
+      go false e = settled (undecided Idle) s r (λ v m. unnamed m (inr refl)) (λ x i k. scanning-inputs c r) (λ i. impossible (cc))
+
+  -- Each step of the sweep keeps it.
+  pub reachable-keeps : Keeps p entry (λ place s. Reachable p entry s) (Ended p entry)
+  reachable-keeps =
+      record {
+        same-literal = λ place s h r e. decided-ends equal s r (λ c i. impossible (cc));
+        inverse-literal = λ place s h r e. decided-ends (different _) s r (λ c i. impossible (cc));
+        same-function = λ place s h r a b c e. decided-ends equal s r (λ c i. impossible (cc));
+        other-function = λ place s h r a b c e. decided-ends (different _) s r (λ c i. impossible (cc));
+        begins = begin-reachable fit;
+        gives-row = λ v b s h g l m e r. input-reachable fit v b s g l m e r;
+        lacks-input-row = λ v b s h g l m e r. input-ends v b s g l m e r;
+        starts = λ s h g u r. r;
+        opens = λ n v s h c e r. opened-reachable r v (pick-waits p (s .stages) v e);
+        passes = λ n v s h c l e r. r;
+        drops = λ n v b s d e f r. dropped-reachable fit d r b e f;
+        sweeps = λ n v b s d e f t r. product-reachable fit d r b e f t;
+        merges = λ n v w b s d e f t r. merged-reachable fit d r b e f w t;
+        lacks-row = λ n v b s d e r. row-ends d r b e;
+        lacks-step = λ n v b s d e r. step-ends d r b e;
+        rests = λ n s h c e r. rest-ends s h c r;
+      }
