@@ -1,15 +1,16 @@
--- What the searches of the sweep find: the twin of a vertex, and the vertex that is picked.
+-- What the searches of the sweep find: the twin of a vertex, the vertex that is picked, and a vertex that is dropped.
 use mathlib.Core.Bool.{Bool, _&&_, cond, false, true}
 use mathlib.Core.List.{List, [], _∷_}
+use mathlib.Core.Logic.{_⊎_, inl, inr}
 use mathlib.Core.Path.{_∙_, _≡_, ap, refl, subst}
 use Prim.Native.Nat.{_+_, _-_, _<_, _≤_, suc, zero, ℕ}
 use native.Mathlib.Decide.{ℕ-discrete}
 use native.Mathlib.Omega.{arith}
 use lib.Dec.{leb}
 use Rattle.sweep_model.proofs.Turns.{no-turns, waiting-turns}
-use Rattle.sweep_model.specs.State.{Problem, Stage, functionOf, has?, stageOf, waits?}
-use Rattle.sweep_model.specs.Sweep.{Twin, at, none, pickFrom, smaller, turnsLeft, twinFrom}
-use Rattle.truth.proofs.Booleans.{and-left, and-right, clash}
+use Rattle.sweep_model.specs.State.{Problem, Stage, dropped?, functionOf, has?, stageOf, waits?}
+use Rattle.sweep_model.specs.Sweep.{Twin, anyDropped?, at, none, pickFrom, smaller, turnsLeft, twinFrom}
+use Rattle.truth.proofs.Booleans.{and-left, and-right, clash, not-true, or-cases, or-left, or-right}
 use Rattle.truth.specs.Parts.{alike?, size}
 
 -- Vertex w has a diagram and the function of vertex v or its inverse.
@@ -128,3 +129,22 @@ no-turns-no-pick p stages e = go (pickFrom p 0 stages) refl
     go : (o : Twin) → pickFrom p 0 stages ≡ o → o ≡ none
     go (at v) k = absurd (omega (arith, no-turns stages e v, waiting-turns (stageOf stages v) (pick-waits p stages v k)))
     go none k = refl
+
+-- Where no vertex passes for dropped none is.
+pub none-dropped : (stages : List Stage) → anyDropped? stages ≡ false → (v : ℕ) → dropped? (stageOf stages v) ≡ false
+unfolding anyDropped? dropped?
+none-dropped [] e v = refl
+none-dropped (x ∷ stages) e zero = not-true (dropped? x) (λ k. clash (or-left (dropped? x) (anyDropped? stages) k) e)
+none-dropped (x ∷ stages) e (suc v) =
+    none-dropped stages (not-true (anyDropped? stages) (λ k. clash (or-right (dropped? x) (anyDropped? stages) k) e)) v
+
+-- Where some vertex passes for dropped one is.
+pub some-dropped : (stages : List Stage) → anyDropped? stages ≡ true → (v : ℕ) × (dropped? (stageOf stages v) ≡ true)
+unfolding anyDropped?
+some-dropped [] e = clash e refl
+some-dropped (x ∷ stages) e = go (or-cases (dropped? x) (anyDropped? stages) e) (some-dropped stages)
+  where
+    go : (dropped? x ≡ true) ⊎ (anyDropped? stages ≡ true) → (anyDropped? stages ≡ true → (v : ℕ) × (dropped? (stageOf stages v) ≡ true))
+        → (v : ℕ) × (dropped? (stageOf (x ∷ stages) v) ≡ true)
+    go (inl k) later = (0, k)
+    go (inr k) later = (suc (later k .0), later k .1)

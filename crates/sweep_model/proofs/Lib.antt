@@ -21,4 +21,9 @@ pub mod Accounts
 pub mod Reachable
 pub mod Replies
 pub mod ReplyLaws
+pub mod Ended
+pub mod Starving
+pub mod NeverIdle
+pub mod Sources
+pub mod AfterRest
 pub mod Example

@@ -1,7 +1,7 @@
 -- Stages of vertices, and a stage stored in a list of them.
 use mathlib.Core.Bool.{false, true}
 use mathlib.Core.List.{List}
-use mathlib.Core.Logic.{_≢_}
+use mathlib.Core.Logic.{_⊎_, _≢_, inl, inr}
 use mathlib.Core.Path.{_∙_, _≡_, ap, refl, sym}
 use Prim.Native.Nat.{_<_, _≤_, suc, zero, ℕ}
 use native.Mathlib.Decide.{decLt}
@@ -10,7 +10,7 @@ use lib.ListN.{List·getD-eq-default, length, length-set}
 use lib.Seq.{getD-set-other, getD-set-same}
 use Rattle.sweep_model.specs.Normalise.{wake, wakeAt}
 use Rattle.sweep_model.specs.State.{Stage, again, bare, bare?, dropped, dropped?, gone, gone?, has?, open?, opened, stageOf, waiting, waits?}
-use Rattle.truth.proofs.Booleans.{clash}
+use Rattle.truth.proofs.Booleans.{clash, not-true}
 
 -- Only a merged vertex passes the test of one.
 pub gone-is : (x : Stage) → gone? x ≡ true → x ≡ gone
@@ -47,15 +47,45 @@ pub bare-lacks : (x : Stage) → bare? x ≡ true → has? x ≡ false
 unfolding has?
 bare-lacks x e = ap has? (bare-is x e)
 
+-- Only a dropped vertex passes the test of one.
+pub dropped-is : (x : Stage) → dropped? x ≡ true → x ≡ dropped
+unfolding dropped?
+dropped-is bare e = clash e refl
+dropped-is waiting e = clash e refl
+dropped-is opened e = clash e refl
+dropped-is again e = clash e refl
+dropped-is dropped e = refl
+dropped-is gone e = clash e refl
+
 -- A dropped vertex has no diagram.
 pub dropped-lacks : (x : Stage) → dropped? x ≡ true → has? x ≡ false
-unfolding dropped? has?
-dropped-lacks bare e = refl
-dropped-lacks waiting e = sym e
-dropped-lacks opened e = sym e
-dropped-lacks again e = sym e
-dropped-lacks dropped e = refl
-dropped-lacks gone e = refl
+unfolding has?
+dropped-lacks x e = ap has? (dropped-is x e)
+
+-- A dropped vertex was not merged.
+pub dropped-not-gone : (x : Stage) → dropped? x ≡ true → gone? x ≡ false
+unfolding gone?
+dropped-not-gone x e = ap gone? (dropped-is x e)
+
+-- A vertex that was not merged is bare or dropped, or has a diagram.
+pub stage-cases : (x : Stage) → gone? x ≡ false → (bare? x ≡ true) ⊎ ((dropped? x ≡ true) ⊎ (has? x ≡ true))
+unfolding gone? bare? dropped? has?
+stage-cases bare e = inl refl
+stage-cases waiting e = inr (inr refl)
+stage-cases opened e = inr (inr refl)
+stage-cases again e = inr (inr refl)
+stage-cases dropped e = inr (inl refl)
+stage-cases gone e = clash refl e
+
+-- A vertex with a diagram that does not wait is at rest.
+pub rests-is : (x : Stage) → has? x ≡ true → waits? x ≡ false → x ≡ opened
+unfolding has? waits?
+rests-is bare e f = clash e refl
+rests-is waiting e f = clash refl f
+rests-is opened e f = refl
+rests-is again e f = clash refl f
+rests-is dropped e f = clash e refl
+rests-is gone e f = clash e refl
 
 -- A bare vertex was not merged.
 pub bare-not-gone : (x : Stage) → bare? x ≡ true → gone? x ≡ false
@@ -101,6 +131,14 @@ waits-wake opened = refl
 waits-wake again = refl
 waits-wake dropped = refl
 waits-wake gone = refl
+
+-- A woken vertex is not bare.
+pub bare-wake : (x : Stage) → bare? (wake x) ≡ false
+bare-wake x = not-true (bare? (wake x)) (λ e. clash (has-wake x) (bare-lacks (wake x) e))
+
+-- A woken vertex is not dropped.
+pub dropped-wake : (x : Stage) → dropped? (wake x) ≡ false
+dropped-wake x = not-true (dropped? (wake x)) (λ e. clash (has-wake x) (dropped-lacks (wake x) e))
 
 -- A woken vertex was not merged.
 pub gone-wake : (x : Stage) → gone? (wake x) ≡ false

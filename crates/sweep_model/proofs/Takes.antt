@@ -10,11 +10,11 @@ use lib.ListN.{length, length-set, set}
 use lib.Seq.{getD-set-other, getD-set-same}
 use Rattle.aig.specs.Literal.{vertexOf}
 use Rattle.aig.specs.Lookup.{firstWord}
-use Rattle.sweep_model.proofs.Stages.{gone-is, gone-wake, has-wake, open-wake, stage-within, wake-wake, woken-constant, woken-length, woken-other, woken-same}
+use Rattle.sweep_model.proofs.Stages.{bare-wake, dropped-wake, gone-is, gone-wake, has-wake, open-wake, stage-within, wake-wake, woken-constant, woken-length, woken-other, woken-same}
 use Rattle.sweep_model.proofs.Tidy.{Tidy, first-unmerged, made-merged, merged-made}
 use Rattle.sweep_model.specs.Fit.{Downward}
 use Rattle.sweep_model.specs.Normalise.{merged?, takeAt, takesFrom, wake, wakeAt, wasMerged?}
-use Rattle.sweep_model.specs.State.{Stage, gone, gone?, has?, open?, opened, stageOf}
+use Rattle.sweep_model.specs.State.{Stage, bare?, dropped?, gone, gone?, has?, open?, opened, stageOf}
 use Rattle.truth.proofs.Booleans.{clash}
 
 -- The vertex of the first word of a row: what a merged vertex was merged into.
@@ -215,6 +215,22 @@ module _ {first : ℕ} {rows : List ℕ} {k n : ℕ} {old new : List Stage} (h :
       go : Fate first rows k n old new u → open? (stageOf new u) ≡ open? (stageOf old u)
       go (left-alone a f) = ap open? a
       go (woken a z v l i w j f) = ap open? a ∙ open-wake (stageOf old u)
+
+  -- A vertex that is bare was so before.
+  pub taken-bare : bare? (stageOf new u) ≡ true → bare? (stageOf old u) ≡ true
+  taken-bare e = go (h .fate u unmerged)
+    where
+      go : Fate first rows k n old new u → bare? (stageOf old u) ≡ true
+      go (left-alone a f) = sym (ap bare? a) ∙ e
+      go (woken a z v l i w j f) = clash (sym (ap bare? a) ∙ e) (bare-wake (stageOf old u))
+
+  -- A vertex that is dropped was so before.
+  pub taken-dropped : dropped? (stageOf new u) ≡ true → dropped? (stageOf old u) ≡ true
+  taken-dropped e = go (h .fate u unmerged)
+    where
+      go : Fate first rows k n old new u → dropped? (stageOf old u) ≡ true
+      go (left-alone a f) = sym (ap dropped? a) ∙ e
+      go (woken a z v l i w j f) = clash (sym (ap dropped? a) ∙ e) (dropped-wake (stageOf old u))
 
   -- It is not gone.
   pub taken-alive : gone? (stageOf old u) ≡ false → gone? (stageOf new u) ≡ false

@@ -1,19 +1,19 @@
 -- What the paper says of a reply: marks, rows, steps, and the conditions after each.
-use mathlib.Core.Bool.{Bool, _||_, cond}
+use mathlib.Core.Bool.{Bool, _||_, cond, false}
 use mathlib.Core.List.{List, [], _∷_, map}
-use mathlib.Core.Logic.{_⊎_}
+use mathlib.Core.Logic.{_⊎_, _≢_}
 use mathlib.Core.Path.{_≡_}
 use Prim.Native.Nat.{_+_, _-_, _<_, _≤_, suc, zero, ℕ}
 use lib.Dec.{eqb}
 use lib.ListN.{drop, getD, length}
 use Rattle.aig.specs.Literal.{vertexOf}
 use Rattle.aig.specs.Lookup.{firstWord, secondWord}
-use Rattle.sweep_model.specs.State.{Problem, literalFunction}
+use Rattle.sweep_model.specs.State.{Problem, functionOf, literalFunction}
 use Rattle.sweep_model.specs.Sweep.{Verdict, undecided}
 use Rattle.sweep_model.specs.declared.Cause.the-variants.{Rows, Steps}
-use Rattle.truth.specs.Parts.{together}
+use Rattle.truth.specs.Parts.{alike?, size, together}
 use Rattle.truth.specs.Steps.{steps}
-use Rattle.truth.specs.Truth.{Truth, conj}
+use Rattle.truth.specs.Truth.{Truth, conj, constant?}
 
 -- An AND: the functions of its two operands. Its function and its product steps.
 abbrev pub And : Type 0
@@ -112,3 +112,19 @@ module _ (first count : ℕ) (marks rows operands : List ℕ) where
   pub record AtRest : Type 0 where
     pub inputs : (v : ℕ) → 1 ≤ v → v < first → markOf v ≡ 1
     pub ands : (v : ℕ) → Made v → markOf v ≡ 0 → Excused v
+
+-- "After Size, some vertex is marked 2; every vertex marked 2 is larger than the size limit."
+pub record AfterSize (p : Problem) (marks : List ℕ) : Type 0 where
+  pub some-large : (v : ℕ) × (v < length (p .functions)) × (getD marks v 0 ≡ 2)
+  pub large : (v : ℕ) → getD marks v 0 ≡ 2 → p .limits .size < size (functionOf p v)
+
+-- "neither constant nor equal or inverse to a function marked 1": a literal.
+pub record Unmatched (p : Problem) (marks : List ℕ) (r : ℕ) : Type 0 where
+  pub not-constant : constant? (literalFunction p r) ≡ false
+  pub not-alike : (v : ℕ) → v < length (p .functions) → getD marks v 0 ≡ 1 → alike? (literalFunction p r) (functionOf p v) ≡ false
+
+-- "After Idle, .. no mark is 2 or 3, and some output is ..": one of the two looked at.
+pub record AfterIdle (p : Problem) (marks : List ℕ) : Type 0 where
+  pub none-large : (v : ℕ) → getD marks v 0 ≢ 2
+  pub none-named : (v : ℕ) → getD marks v 0 ≢ 3
+  pub output : Unmatched p marks (p .left) ⊎ Unmatched p marks (p .right)
