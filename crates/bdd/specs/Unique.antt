@@ -7,9 +7,10 @@ use Rattle.bdd.specs.declared.unique.Made.the-variants.{At, Full}
 use Rattle.bdd.specs.declared.unique.Made.{Made}
 use Rattle.truth.specs.Distinct.{among}
 use Rattle.truth.specs.Parts.{alike?, depends?}
-use Rattle.truth.specs.Truth.{Truth, invert, node, valueAt}
+unfoldable pub use Rattle.truth.specs.Parts.{plain}
+use Rattle.truth.specs.Truth.{Truth, node}
 use mathlib.Core.Bool.{_&&_, cond, false, not, true}
-use mathlib.Core.List.{List, [], _∷_}
+use mathlib.Core.List.{List, _∷_}
 use mathlib.Core.Logic.{_≢_}
 use mathlib.Core.Path.{_≡_}
 
@@ -60,10 +61,6 @@ pub record Grown (s t : List ℕ) (limit n u : ℕ) : Type 0 where
   pub kept : Kept s t n
   pub more : n ≤ u
   pub fresh : (i : ℕ) → n < i → i ≤ u → ownerAt t i ≡ 0
-
--- "one row serving a function and its inverse": of the two, the one that is false where all inputs are 0.
-unfoldable pub plain : Truth → Truth
-plain f = cond (valueAt f []) (invert f) f
 
 -- "each row is one distinct part": f added to the functions of the rows where it depends on its next input and is none of them.
 unfoldable pub addPart : Truth → List Truth → List Truth

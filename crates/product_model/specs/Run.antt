@@ -1,13 +1,14 @@
 -- The product of two decision diagrams as a run over truth tables, with a limit on rows and a limit on steps.
 use mathlib.Core.Bool.{_||_, cond}
-use mathlib.Core.List.{List, [], _∷_}
+use mathlib.Core.List.{List, _∷_}
 use Prim.Native.Nat.{_+_, ℕ}
 use lib.Dec.{ltb}
 use lib.ListN.{length}
 use Rattle.truth.specs.Distinct.{among}
 use Rattle.truth.specs.Parts.{alike?, depends?}
+unfoldable pub use Rattle.truth.specs.Parts.{plain}
 use Rattle.truth.specs.Steps.{terminal?}
-use Rattle.truth.specs.Truth.{Truth, conj, invert, leaf, node, same?, valueAt}
+use Rattle.truth.specs.Truth.{Truth, conj, leaf, node, same?}
 
 -- "each row is one distinct part": the functions of the diagram rows made so far, newest first; and the product steps taken.
 pub record Book : Type 0 where
@@ -40,10 +41,6 @@ withStep b = record { store = b .store; steps = b .steps + 1 }
 -- "product calls counted against the limit": one step more, or short where "one more step than the limit was needed".
 unfoldable pub countStep : ℕ → Book → Outcome
 countStep stepLimit b = cond (ltb (b .steps) stepLimit) (done (withStep b)) (shortOfSteps b)
-
--- "one row serving a function and its inverse": of the two, the one that is false on the all-zero setting.
-unfoldable pub plain : Truth → Truth
-plain f = cond (valueAt f []) (invert f) f
 
 -- A book with one row more.
 abbrev pub withRow : Truth → Book → Book

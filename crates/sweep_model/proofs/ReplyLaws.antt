@@ -33,10 +33,11 @@ use Rattle.truth.specs.Distinct.{among}
 use Rattle.truth.specs.Parts.{alike?, parts, size, together}
 use Rattle.truth.specs.Truth.{Truth, constant?, constantly, input}
 
--- The state that a sweep leaves, and the mark of a vertex in it.
+-- The state that a sweep leaves.
 abbrev pub leftBy : Problem → List ℕ → State
 leftBy p entry = sweep p entry .left
 
+-- The mark of a vertex in it.
 abbrev pub markLeft : Problem → List ℕ → ℕ → ℕ
 markLeft p entry v = getD (leftBy p entry .marks) v 0
 
@@ -69,10 +70,11 @@ module _ {p : Problem} {entry : List ℕ} (fit : Fit p entry) where
   pub three-named : (v : ℕ) → Names (sweep p entry .verdict) v ↔ (markLeft p entry v ≡ 3)
   three-named = sweep-ended .three
 
-  -- A vertex marked 2 is a made vertex larger than the size limit.
+  -- A vertex marked 2 is a made vertex.
   pub two-made : (v : ℕ) → markLeft p entry v ≡ 2 → p .first ≤ v
   two-made v = sweep-ended .fits v .made
 
+  -- It is larger than the size limit.
   pub two-large : (v : ℕ) → markLeft p entry v ≡ 2 → p .limits .size < size (functionOf p v)
   two-large v = sweep-ended .fits v .large
 
@@ -112,7 +114,11 @@ module _ {p : Problem} {entry : List ℕ} (fit : Fit p entry) where
   -- An input is marked 1 exactly where its row is in the store.
   pub input-row : (v : ℕ) → 1 ≤ v → v < p .first → (markLeft p entry v ≡ 1) ↔ Stored (functionOf p v) (leftBy p entry .book .store)
   input-row zero l h = absurd (omega arith)
-  input-row (suc i) l h = (one-stored (suc i), λ w. go (marked-part (is 1) (leftBy p entry .marks) (p .functions) (constantly (p .inputs) false) row (sym (sweep-ended .holds .members row) ∙ w row own)))
+  input-row (suc i) l h = (
+    one-stored (suc i),
+    λ w.
+        go (marked-part (is 1) (leftBy p entry .marks) (p .functions) (constantly (p .inputs) false) row (sym (sweep-ended .holds .members row) ∙ w row own)),
+  )
     where
       row : Truth
       row = input (p .inputs - i) 1
@@ -155,14 +161,15 @@ module _ {p : Problem} {entry : List ℕ} (fit : Fit p entry) where
       apart-varies p (leftBy p entry .stages) (sweep-ended .apart) (fit .well-formed) (sweep-steady fit .staged .constant) v d
       (alive-within (sweep-steady fit) v (has-not-gone (stageOf (leftBy p entry .stages) v) e)) e
 
-  -- Rows: the parts of the functions marked 1, within the limit.
+  -- Rows are the distinct parts of the functions marked 1.
   pub rows-counted : length (leftBy p entry .book .store) ≡ rowsMarked p (leftBy p entry .marks)
   rows-counted = holds-rows (sweep-ended .proper) (sweep-ended .holds)
 
+  -- They are within the limit.
   pub rows-within : length (leftBy p entry .book .store) ≤ p .limits .rows
   rows-within = sweep-ended .proper .rows
 
-  -- Steps: those of the ANDs marked 1 or 2, but after Rows and Steps; within the limit.
+  -- Steps are those of the ANDs marked 1 or 2, where the verdict names no vertex.
   pub steps-counted : ((v : ℕ) → Names (sweep p entry .verdict) v → ⊥) → leftBy p entry .book .steps ≡ stepsMarked p entry (leftBy p entry .marks)
   steps-counted unnamed = go (sweep-ended .spent) unnamed
     where
@@ -172,6 +179,7 @@ module _ {p : Problem} {entry : List ℕ} (fit : Fit p entry) where
       go (no-row {v = v} h) u = absurd (u v by-rows)
       go (no-step {v = v} e h) u = absurd (u v by-steps)
 
+  -- They are within the limit.
   pub steps-within : leftBy p entry .book .steps ≤ p .limits .steps
   steps-within = sweep-ended .proper .taken
 
@@ -184,8 +192,8 @@ module _ {p : Problem} {entry : List ℕ} (fit : Fit p entry) where
       go {v} (in-full n i) = absurd (n v by-rows)
       go (no-row h) = h
 
-  -- After Steps the steps are the limit, and the sum with the vertex marked 3 exceeds it.
   module _ (v : ℕ) (e : sweep p entry .verdict ≡ undecided (Steps v)) where
+    -- After Steps the steps are the limit.
     pub steps-full : leftBy p entry .book .steps ≡ p .limits .steps
     steps-full = go (rw e at (sweep-ended .spent))
       where
@@ -193,6 +201,7 @@ module _ {p : Problem} {entry : List ℕ} (fit : Fit p entry) where
         go {v} (in-full n i) = absurd (n v by-steps)
         go (no-step i h) = i
 
+    -- The sum with the vertex marked 3 exceeds it.
     pub steps-passed : p .limits .steps < stepsMarkedWithLast p entry (leftBy p entry .marks)
     steps-passed = go (rw e at (sweep-ended .spent))
       where

@@ -1,10 +1,10 @@
 -- Parts of functions. A part is the function of a row of a reduced decision diagram.
-use mathlib.Core.Bool.{Bool, _||_, false, not}
+use mathlib.Core.Bool.{Bool, _||_, cond, false, not}
 use mathlib.Core.List.{List, [], _++_, _∷_}
 use Prim.Native.Nat.{ℕ}
 use lib.ListN.{length}
 use Rattle.truth.specs.Distinct.{distinct, filter}
-use Rattle.truth.specs.Truth.{Truth, invert, leaf, node, same?}
+use Rattle.truth.specs.Truth.{Truth, invert, leaf, node, same?, valueAt}
 
 -- "Fix inputs 1 to k-1 of a function to some values.": what is left, for every k and all values (the cofactors).
 unfoldable pub cofactors : Truth → List Truth
@@ -23,6 +23,10 @@ parts f = filter depends? (cofactors f)
 -- "Two parts at the same k are the same if they are equal or inverse to each other." (At different k they have different depths.)
 unfoldable pub alike? : Truth → Truth → Bool
 alike? f g = same? f g || same? f (invert g)
+
+-- "one row serving a function and its inverse": of the two, the one that is false on the all-zero setting.
+unfoldable pub plain : Truth → Truth
+plain f = cond (valueAt f []) (invert f) f
 
 -- "The size of a function is the number of its distinct parts."
 unfoldable pub size : Truth → ℕ

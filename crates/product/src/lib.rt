@@ -1,0 +1,86 @@
+// The product: the recursive AND of two diagrams, counted.
+use bdd::references::Ending;
+use bdd::unique::Made;
+ghost use Rattle.product.specs.Product.{Ask, Multiplies};
+ghost use mathlib.Core.Path.{_≡_};
+
+// How a product ended: its reference, or a limit that it passed; with the rows then used and the steps taken.
+pub enum Product {
+    Done {
+        reference: usize,
+        used: usize,
+        steps: usize,
+    },
+    ShortOfRows {
+        used: usize,
+        steps: usize,
+    },
+    ShortOfSteps {
+        used: usize,
+        steps: usize,
+    },
+}
+
+// The AND of f and g, functions of the `left` inputs not yet passed: this call counted, then the value 0 of the lowest-numbered input
+// on which either depends, then the value 1, then the row of the two results.
+pub fn multiply(
+    rows: &mut [u32],
+    used: usize,
+    limit: usize,
+    f: usize,
+    g: usize,
+    left: usize,
+    steps: usize,
+    most: usize,
+) -> Product
+    requires { ⌜ Ask (now rows) limit used f g left steps most ⌝ }
+    ensures { λ r. ⌜ Multiplies (now (rows .entry)) (now (rows .exit)) limit used f g left steps most r ⌝ }
+{
+    if most <= steps {
+        return Product::ShortOfSteps { used, steps };
+    }
+    let ending = bdd::references::ends(f, g);
+    if let Ending::Yes(r) = ending {
+        return Product::Done {
+            reference: r,
+            used,
+            steps: steps + 1,
+        };
+    }
+    let h = bdd::references::split_at_top(rows, f, g);
+    let level = h.level;
+    let zero = multiply(rows, used, limit, h.f0, h.g0, level - 1, steps + 1, most);
+    match zero {
+        Product::Done {
+            reference: low,
+            used: used0,
+            steps: steps0,
+        } => {
+            let one = multiply(rows, used0, limit, h.f1, h.g1, level - 1, steps0, most);
+            match one {
+                Product::Done {
+                    reference: high,
+                    used: used1,
+                    steps: steps1,
+                } => {
+                    let made = bdd::unique::make(rows, used1, limit, level, low, high);
+                    match made {
+                        Made::At { reference, used } => Product::Done {
+                            reference,
+                            used,
+                            steps: steps1,
+                        },
+                        Made::Full => Product::ShortOfRows {
+                            used: used1,
+                            steps: steps1,
+                        },
+                    }
+                }
+                Product::ShortOfRows { used, steps } => Product::ShortOfRows { used, steps },
+                Product::ShortOfSteps { used, steps } => Product::ShortOfSteps { used, steps },
+            }
+        }
+        Product::ShortOfRows { used, steps } => Product::ShortOfRows { used, steps },
+        Product::ShortOfSteps { used, steps } => Product::ShortOfSteps { used, steps },
+    }
+}
