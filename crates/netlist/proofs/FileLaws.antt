@@ -2,19 +2,20 @@
 use mathlib.Core.Bool.{Bool, _||_, false, true}
 use mathlib.Core.List.{List, [], _++_, _∷_, append-assoc, map}
 use mathlib.Core.Path.{_≡_, ap, ap₂, refl, sym, _∙_}
-use Prim.Native.Nat.{_+_, _≤_, ℕ}
+use Prim.Native.Nat.{_*_, _+_, _≤_, ℕ}
 use native.Mathlib.Omega.{arith}
 use borrow.Author.Tests.{ne-eqb}
 use lib.Dec.{eqb}
 use lib.ListN.{length}
 use Rattle.netlist.proofs.LineLaws.{records-end, records-line}
 use Rattle.netlist.proofs.RecordLaws.{Spelled, fields-lack, fields-some, gate, header, line-end, output, read-written, spelled-read, tab}
-use Rattle.netlist.specs.Limits.{edition}
-use Rattle.netlist.specs.Netlist.{AllBelow, Downward, Gate, Netlist, Within, bodyRecords, fieldsOf, gateRecord, lineBytes, linesBytes, netlistRecords}
+use Rattle.netlist.specs.Limits.{edition, maxGates}
 use Rattle.netlist.specs.Netlist as netlist
+use Rattle.netlist.specs.Netlist.{AllBelow, Downward, Gate, Netlist, Within, bodyRecords, fieldsOf, gateRecord, lineBytes, linesBytes, netlistRecords}
 use Rattle.netlist.specs.Records.{fieldsRecord, fileRecords, recordOf, recordsOf, unended}
 use Rattle.netlist.specs.declared.records.Record.{Record}
 use Rattle.netlist.specs.declared.records.Record.the-variants.{Malformed, Output}
+use Rattle.table.specs.Limits.{maxInputs}
 use Rattle.text.proofs.SplitLaws.{join-splitAt, splitAt-join}
 use Rattle.text.specs.Split.{anyHas, has, join, splitAt}
 use Rattle.truth.proofs.Booleans.{clash}
@@ -92,12 +93,12 @@ file-written bytes s = sym (join-splitAt 10 bytes) ∙ parts-written (splitAt 10
 
 -- The records of a netlist within its limits can be held by lines.
 gates-spelled :
-    {v : ℕ} {gs : List Gate} {rs : List Record} → Downward v gs → v + length gs ≤ 4161 → AllSpelled rs → AllSpelled (map gateRecord gs ++ rs)
+    {v : ℕ} {gs : List Gate} {rs : List Record} → Downward v gs → v + length gs ≤ 1 + maxInputs + maxGates → AllSpelled rs → AllSpelled (map gateRecord gs ++ rs)
 gates-spelled netlist.Downward.none h s = s
 gates-spelled (netlist.Downward.gate {g = g} p q d) h s =
     next (gate {p = g .p} {q = g .q} (omega arith) (omega arith)) (gates-spelled d (omega arith) s)
 
-outputs-spelled : {n : ℕ} {os : List ℕ} → AllBelow n os → n ≤ 8322 → AllSpelled (map Output os)
+outputs-spelled : {n : ℕ} {os : List ℕ} → AllBelow n os → n ≤ 2 * (1 + maxInputs + maxGates) → AllSpelled (map Output os)
 outputs-spelled netlist.AllBelow.none h = none
 outputs-spelled (netlist.AllBelow.next {r = r} l b) h = next (output {r = r} (omega arith)) (outputs-spelled b h)
 

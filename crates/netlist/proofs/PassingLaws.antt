@@ -7,6 +7,7 @@ use lib.ListN.{drop, length}
 use Rattle.netlist.proofs.LineLaws.{formed-ended, records-ahead, records-end}
 use Rattle.netlist.proofs.StepLaws.{ands-few, gate-cases, header-cases, output-cases}
 use Rattle.netlist.specs.Check.{checkFile, checkFrom, finish, stepOf}
+use Rattle.netlist.specs.Limits.{maxGates}
 use Rattle.netlist.specs.Passing.{Counted, Held, at-first, at-later, lineDue, lineRecord}
 use Rattle.netlist.specs.Records.{fileRecords}
 use Rattle.netlist.specs.declared.check.Body.{Body}
@@ -17,6 +18,7 @@ use Rattle.netlist.specs.declared.check.Stepped.{Stepped}
 use Rattle.netlist.specs.declared.check.Stepped.the-variants.{Next, Refuse}
 use Rattle.netlist.specs.declared.records.Record.{Record}
 use Rattle.netlist.specs.declared.records.Record.the-variants.{Gate, Header, Malformed, Output}
+use Rattle.table.specs.Limits.{maxOutputs}
 use Rattle.text.specs.Split.{upTo}
 
 -- The counts of what is due after line 1.
@@ -24,7 +26,7 @@ pub held-later : {b : Body} → Held (Later b) → Counted b
 held-later (at-later h) = h
 
 -- What is due has a number that any line number's type holds.
-pub line-few : {due : Due} → Held due → lineDue due ≤ 4162
+pub line-few : {due : Due} → Held due → lineDue due ≤ 2 + maxGates + maxOutputs
 unfolding lineDue
 line-few at-first = omega arith
 line-few (at-later h) = omega (arith, h .gates, h .outputs, h .gate, h .output)

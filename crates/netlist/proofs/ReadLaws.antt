@@ -9,8 +9,8 @@ use Rattle.netlist.proofs.FileLaws.{bytes-read, file-written, within-sp
 use Rattle.netlist.proofs.LineLaws.{line-ahead}
 use Rattle.netlist.specs.Accepted.{Holds, summaryOf}
 use Rattle.netlist.specs.Check.{body, checkFile, gatesIn, netlistIn, outputsIn, read, readBy, readNetlist, refused}
-use Rattle.netlist.specs.Netlist.{Netlist, Within, bodyRecords, bytesOf, gateRecord, headerRecord, linesBytes, netlistRecords}
 use Rattle.netlist.specs.Netlist as netlist
+use Rattle.netlist.specs.Netlist.{Netlist, Within, bodyRecords, bytesOf, gateRecord, headerRecord, linesBytes, netlistRecords}
 use Rattle.netlist.specs.Records.{fileRecords}
 use Rattle.netlist.specs.declared.check.Checked.{Checked}
 use Rattle.netlist.specs.declared.check.Checked.the-variants.{Accepted, Refused}

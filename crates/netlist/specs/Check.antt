@@ -5,8 +5,8 @@ use Prim.Native.Nat.{_*_, _+_, ℕ}
 use lib.Dec.{eqb, leb, ltb}
 use lib.ListN.{length}
 use Rattle.netlist.specs.Limits.{edition, maxGates}
-use Rattle.netlist.specs.Netlist.{Netlist}
 use Rattle.netlist.specs.Netlist as netlist
+use Rattle.netlist.specs.Netlist.{Netlist}
 use Rattle.netlist.specs.Records.{fileRecords}
 use Rattle.netlist.specs.declared.check.Body.{Body}
 use Rattle.netlist.specs.declared.check.Checked.{Checked}

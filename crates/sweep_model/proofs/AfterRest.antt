@@ -1,5 +1,5 @@
 -- What holds after Size and after Idle, and that Size is not said where the size limit suffices.
-use mathlib.Core.Bool.{false, true}
+use mathlib.Core.Bool.{cond, false, true}
 use mathlib.Core.List.{List}
 use mathlib.Core.Logic.{_⊎_, _≢_, inl, inr, ⊎-elim}
 use mathlib.Core.Path.{_∙_, _≡_, ap, sym}
@@ -9,43 +9,45 @@ use native.Mathlib.Omega.{arith}
 use borrow.Author.Tests.{eqb-true}
 use Rattle.aig.specs.Literal.{vertexOf}
 use Rattle.aig.specs.Lookup.{firstWord, secondWord}
-use Rattle.sweep_model.proofs.Choices.{some-dropped}
-use Rattle.sweep_model.proofs.Ended.{Resting, at-rest, cause-size}
-use Rattle.sweep_model.proofs.Induction.{sweep-keeps}
+use Rattle.sweep_model.proofs.Halt.{Resting, sweep-quiet}
 use Rattle.sweep_model.proofs.NeverIdle.{Lacking, Rest, is-bare, is-dropped, never-idle, operand-lacks, sweep-rests}
-use Rattle.sweep_model.proofs.Rows.{onto-vertex, resolve-first, resolve-merged, resolve-stays}
-use Rattle.sweep_model.proofs.Sources.{Recorded, Source, markAt, marks-record}
-use Rattle.sweep_model.proofs.Stages.{bare-lacks, dropped-lacks, dropped-not-gone, stage-cases}
+use Rattle.sweep_model.proofs.Reachable.{Reachable}
+use Rattle.sweep_model.proofs.Replies.{reachable-keeps}
+use Rattle.sweep_model.proofs.ReplyLaws.{marked-unmerged, size-some, two-large, two-made}
+use Rattle.sweep_model.proofs.Rows.{resolve-first, resolve-stays, resolve-vertex}
+use Rattle.sweep_model.proofs.Sources.{Recorded, Source, markAt, sources-keep}
+use Rattle.sweep_model.proofs.Stages.{bare-lacks, dropped-lacks, stage-cases}
 use Rattle.sweep_model.proofs.Starving.{first-alive, second-alive}
 use Rattle.sweep_model.proofs.Steady.{alive-unmerged, alive-within}
+use Rattle.sweep_model.proofs.Takes.{target}
 use Rattle.sweep_model.proofs.Tidy.{equal-merged, made-merged}
-use Rattle.sweep_model.specs.Claims.{AfterIdle, AfterSize, AtRest, Excused, Made, Stuck, TookOne, by-first, by-merging, by-second, by-taking}
+use Rattle.sweep_model.specs.Claims.{AfterIdle, AtRest, Excused, Made, Stuck, TookOne, by-first, by-merging, by-second, by-taking}
 use Rattle.sweep_model.specs.Fit.{Fit, vertexCount}
 use Rattle.sweep_model.specs.Normalise.{merged?, resolve}
 use Rattle.sweep_model.specs.State.{Problem, State, bare?, dropped?, functionOf, gone?, has?, stageOf}
 use Rattle.sweep_model.specs.Sweep.{sweep, undecided}
 use Rattle.sweep_model.specs.declared.Cause.the-variants.{Idle, Size}
-use Rattle.truth.proofs.Booleans.{bool-cases, clash, not-true}
+use Rattle.truth.proofs.Booleans.{bool-cases, clash}
 use Rattle.truth.specs.Parts.{size}
 
--- A state in which none waits, with its marks.
-module _ {p : Problem} {entry : List ℕ} {s : State} (some : 1 ≤ p .first) (rest : Rest p entry s) (marks : Recorded p (p .first) s) where
+-- A state in which none waits: what is known of its stages, its marks and the sources of its diagrams.
+module _ {p : Problem} {entry : List ℕ} {s : State} (some : 1 ≤ p .first) (rest : Rest p entry s) (reach : Reachable p entry s)
+    (origins : Recorded p s) where
   abbrev One : ℕ → Type 0
   One v = TookOne (p .first) (vertexCount p) (s .marks) (s .rows) (s .rows) v
 
-  -- A bare vertex has none marked 1 merged into it.
+  -- A vertex without a diagram has none marked 1 merged into it.
   none-taken : (v : ℕ) → has? (stageOf (s .stages) v) ≡ false → One v → ⊥
   none-taken v lacks t =
       clash
       (ap (λ (u : ℕ). has? (stageOf (s .stages) u)) (sym became)
-      ∙ marks .swept-have (2 * t .other) (omega (arith, t .made .there)) (let e : vertexOf (2 * t .other) ≡ t .other = omega arith in rw e (t .mark)))
+      ∙ origins .swept-have (2 * t .other) (omega (arith, t .made .there)) (let e : vertexOf (2 * t .other) ≡ t .other = omega arith in rw e (t .mark)))
       lacks
     where
       became : vertexOf (resolve (s .rows) (2 * t .other)) ≡ v
       became =
           let e : vertexOf (2 * t .other) ≡ t .other = omega arith in
-          ap (λ (x : ℕ). vertexOf x) (resolve-merged (s .rows) (2 * t .other) (rw e (equal-merged (s .rows) (t .other) (t .merged))))
-          ∙ onto-vertex (firstWord (s .rows) (vertexOf (2 * t .other))) (2 * t .other) ∙ ap (λ (x : ℕ). vertexOf (firstWord (s .rows) x)) e ∙ t .into
+          resolve-vertex (s .rows) (2 * t .other) (rw e (equal-merged (s .rows) (t .other) (t .merged))) ∙ ap (target (s .rows)) e ∙ t .into
 
   -- An AND with a diagram that is not marked 1 has one marked 1 merged into it.
   has-taken : (v : ℕ) → p .first ≤ v → markAt (s .marks) v ≢ 1 → Source (vertexCount p) (s .rows) (s .marks) v → One v
@@ -58,7 +60,7 @@ module _ {p : Problem} {entry : List ℕ} {s : State} (some : 1 ≤ p .first) (r
             made = record { made = omega arith; there = omega (arith, f .within) };
             mark = f .mark;
             merged = eqb-true (firstWord (s .rows) u) (secondWord (s .rows) u) m;
-            into = sym (ap (λ (x : ℕ). vertexOf x) (resolve-merged (s .rows) r m) ∙ onto-vertex (firstWord (s .rows) u) r) ∙ f .became;
+            into = sym (resolve-vertex (s .rows) r m) ∙ f .became;
           }
           | inr m ↦ absurd (unswept (ap (markAt (s .marks)) (sym (itself (resolve-stays (s .rows) r m))) ∙ f .mark))
         ]
@@ -71,7 +73,7 @@ module _ {p : Problem} {entry : List ℕ} {s : State} (some : 1 ≤ p .first) (r
       u = vertexOf r
 
       itself : resolve (s .rows) r ≡ r → u ≡ v
-      itself e = ap (λ (x : ℕ). vertexOf x) (sym e) ∙ f .became
+      itself e = ap vertexOf (sym e) ∙ f .became
 
   -- A vertex without a diagram is stuck: it is an unmerged AND marked 2, or marked 0 with none marked 1 merged into it.
   stuck : (v : ℕ) → gone? (stageOf (s .stages) v) ≡ false → Lacking (s .stages) v → Stuck (p .first) (vertexCount p) (s .marks) (s .rows) (s .rows) v
@@ -95,14 +97,14 @@ module _ {p : Problem} {entry : List ℕ} {s : State} (some : 1 ≤ p .first) (r
           ]
 
       mark : Lacking (s .stages) v → (markAt (s .marks) v ≡ 2) ⊎ ((markAt (s .marks) v ≡ 0) × (One v → ⊥))
-      mark (is-bare e) = inr (marks .bare-marks v e, none-taken v (lacks l))
-      mark (is-dropped e) = inl (marks .dropped-marks v e)
+      mark (is-bare e) = inr (reach .fits v .bare-unmarked e, none-taken v (lacks l))
+      mark (is-dropped e) = inl (reach .fits v .dropped-two e)
 
   -- "every input is marked 1, and every AND marked 0 is merged, or ..", operands by the rows as left.
   pub rest-claims : AtRest (p .first) (vertexCount p) (s .marks) (s .rows) (s .rows)
   rest-claims =
       record {
-        inputs = marks .inputs;
+        inputs = λ v l h. reach .fits v .input l h ∙ ap (λ b. cond b 1 0) (rest .first-have v h);
         ands = λ v m e.
             elim (bool-cases (merged? (s .rows) v)) [
               | inl i ↦ by-merging (eqb-true (firstWord (s .rows) v) (secondWord (s .rows) v) i)
@@ -119,38 +121,18 @@ module _ {p : Problem} {entry : List ℕ} {s : State} (some : 1 ≤ p .first) (r
           ⊎-elim (λ l. by-first (stuck (vertexOf (firstWord (s .rows) v)) (first-alive (rest .steady) v (m .made) (m .there)) l))
           (λ l. by-second (stuck (vertexOf (secondWord (s .rows) v)) (second-alive (rest .steady) v (m .made) (m .there)) l))
           (operand-lacks rest v (m .made) (m .there) i)
-      unmerged v m e (inr (inl i)) = absurd (omega (arith, marks .dropped-marks v i))
+      unmerged v m e (inr (inl i)) = absurd (omega (arith, reach .fits v .dropped-two i))
       unmerged v m e (inr (inr i)) =
-          by-taking (has-taken v (m .made) (λ k. omega arith) (marks .sources v (λ k. omega (arith, m .made, some)) i))
+          by-taking (has-taken v (m .made) (λ k. omega arith) (origins .sources v (λ k. omega (arith, m .made, some)) i))
 
 module _ {p : Problem} {entry : List ℕ} (fit : Fit p entry) where
-  -- The marks that the sweep leaves after Size and Idle.
-  sweep-records : Resting (sweep p entry .verdict) → Recorded p (p .first) (sweep p entry .left)
-  sweep-records r = at-rest (sweep-keeps fit (marks-record fit)) r .0
-
   -- After Size and Idle every input is marked 1, and every AND marked 0 has its excuse.
   pub after-rest :
       Resting (sweep p entry .verdict)
       → AtRest (p .first) (vertexCount p) (sweep p entry .left .marks) (sweep p entry .left .rows) (sweep p entry .left .rows)
-  after-rest r = rest-claims (fit .well-formed .some-first) (sweep-rests fit r .0) (sweep-records r)
-
-  -- After Size some vertex is dropped.
-  pub size-drops : sweep p entry .verdict ≡ undecided Size → (v : ℕ) × (dropped? (stageOf (sweep p entry .left .stages) v) ≡ true)
-  size-drops e = some-dropped (sweep p entry .left .stages) (cause-size (sweep p entry .left) (sym e ∙ sweep-rests fit (inl e) .1))
-
-  -- After Size some vertex is marked 2, and every vertex marked 2 is larger than the size limit.
-  pub after-size : sweep p entry .verdict ≡ undecided Size → AfterSize p (sweep p entry .left .marks)
-  after-size e =
-      let d = size-drops e in
-      let marks = sweep-records (inl e) in
-      record {
-        some-large = (
-          d .0,
-          alive-within (sweep-rests fit (inl e) .0 .steady) (d .0) (dropped-not-gone (stageOf (sweep p entry .left .stages) (d .0)) (d .1)),
-          marks .dropped-marks (d .0) (d .1),
-        );
-        large = marks .large;
-      }
+  after-rest r =
+      rest-claims (fit .well-formed .some-first) (sweep-rests fit r) (sweep-quiet fit (reachable-keeps fit) r .0 .reached .kept)
+      (sweep-quiet fit (sources-keep fit) r .0 .reached .kept)
 
   -- After Idle the paper's conditions hold: it is never said.
   pub after-idle : sweep p entry .verdict ≡ undecided Idle → AfterIdle p (sweep p entry .left .marks)
@@ -161,22 +143,6 @@ module _ {p : Problem} {entry : List ℕ} (fit : Fit p entry) where
       ((v : ℕ) → p .first ≤ v → v < vertexCount p → merged? entry v ≡ false → size (functionOf p v) ≤ p .limits .size)
       → sweep p entry .verdict ≢ undecided Size
   size-suffices few e =
-      let d = size-drops e in
-      let v = d .0 in
-      let rest = sweep-rests fit (inl e) .0 in
-      let alive = dropped-not-gone (stageOf (sweep p entry .left .stages) v) (d .1) in
-      let within = alive-within (rest .steady) v alive in
-      let large = sweep-records (inl e) .large v (sweep-records (inl e) .dropped-marks v (d .1)) in
-      elim (decLt v (p .first)) [
-        | yes l ↦ clash (rest .first-have v l) (dropped-lacks (stageOf (sweep p entry .left .stages) v) (d .1))
-        | no l ↦ (let made : p .first ≤ v = omega arith in
-            omega (
-              arith,
-              large,
-              few v made within
-                  (not-true (merged? entry v)
-                  (λ m.
-                  clash (made-merged (p .first) (sweep p entry .left .rows) v made ∙ rest .steady .moved .still v made within m)
-                  (alive-unmerged (rest .steady) v alive))),
-            ))
-      ]
+      let d = size-some fit e in
+      let made = two-made fit (d .0) (d .2) in
+      omega (arith, two-large fit (d .0) (d .2), few (d .0) made (d .1) (marked-unmerged fit (d .0) made (λ z. omega arith)))

@@ -1,7 +1,6 @@
--- What the searches of the sweep find: the twin of a vertex, the vertex that is picked, and a vertex that is dropped.
+-- What the searches of the sweep find: the twin of a vertex, the vertex that is picked, and no vertex that is dropped.
 use mathlib.Core.Bool.{Bool, _&&_, cond, false, true}
 use mathlib.Core.List.{List, [], _∷_}
-use mathlib.Core.Logic.{_⊎_, inl, inr}
 use mathlib.Core.Path.{_∙_, _≡_, ap, refl, subst}
 use Prim.Native.Nat.{_+_, _-_, _<_, _≤_, suc, zero, ℕ}
 use native.Mathlib.Decide.{ℕ-discrete}
@@ -10,7 +9,7 @@ use lib.Dec.{leb}
 use Rattle.sweep_model.proofs.Turns.{no-turns, waiting-turns}
 use Rattle.sweep_model.specs.State.{Problem, Stage, dropped?, functionOf, has?, stageOf, waits?}
 use Rattle.sweep_model.specs.Sweep.{Twin, anyDropped?, at, none, pickFrom, smaller, turnsLeft, twinFrom}
-use Rattle.truth.proofs.Booleans.{and-left, and-right, clash, not-true, or-cases, or-left, or-right}
+use Rattle.truth.proofs.Booleans.{and-left, and-right, clash, not-true, or-left, or-right}
 use Rattle.truth.specs.Parts.{alike?, size}
 
 -- Vertex w has a diagram and the function of vertex v or its inverse.
@@ -137,14 +136,3 @@ none-dropped [] e v = refl
 none-dropped (x ∷ stages) e zero = not-true (dropped? x) (λ k. clash (or-left (dropped? x) (anyDropped? stages) k) e)
 none-dropped (x ∷ stages) e (suc v) =
     none-dropped stages (not-true (anyDropped? stages) (λ k. clash (or-right (dropped? x) (anyDropped? stages) k) e)) v
-
--- Where some vertex passes for dropped one is.
-pub some-dropped : (stages : List Stage) → anyDropped? stages ≡ true → (v : ℕ) × (dropped? (stageOf stages v) ≡ true)
-unfolding anyDropped?
-some-dropped [] e = clash e refl
-some-dropped (x ∷ stages) e = go (or-cases (dropped? x) (anyDropped? stages) e) (some-dropped stages)
-  where
-    go : (dropped? x ≡ true) ⊎ (anyDropped? stages ≡ true) → (anyDropped? stages ≡ true → (v : ℕ) × (dropped? (stageOf stages v) ≡ true))
-        → (v : ℕ) × (dropped? (stageOf (x ∷ stages) v) ≡ true)
-    go (inl k) later = (0, k)
-    go (inr k) later = (suc (later k .0), later k .1)

@@ -21,9 +21,10 @@ pub mod Accounts
 pub mod Reachable
 pub mod Replies
 pub mod ReplyLaws
-pub mod Ended
+pub mod Halt
 pub mod Starving
 pub mod NeverIdle
 pub mod Sources
 pub mod AfterRest
+pub mod Decides
 pub mod Example

@@ -11,8 +11,8 @@ use Rattle.aig.specs.Literal.{vertexOf}
 use Rattle.aig.specs.Lookup.{firstWord, secondWord}
 use Rattle.sweep_model.proofs.Bound.{claim-on}
 use Rattle.sweep_model.proofs.Choices.{none-dropped, pick-none, pick-waits, twin-at}
-use Rattle.sweep_model.proofs.Ended.{Ended, Resting, at-rest, cause-idle, rested, says-different, says-equal, says-rows, says-steps}
-use Rattle.sweep_model.proofs.Induction.{Keeps, Place, go-claim, giving, scanning, start-claim, sweep-keeps}
+use Rattle.sweep_model.proofs.Halt.{Resting, cause-idle, sweep-quiet}
+use Rattle.sweep_model.proofs.Induction.{Keeps, Place, Quiet, go-claim, giving, scanning, start-claim}
 use Rattle.sweep_model.proofs.Rows.{resolve-within}
 use Rattle.sweep_model.proofs.Stages.{bare-lacks, has-not-gone, rests-is, stage-cases, stage-within, waits-has}
 use Rattle.sweep_model.proofs.Starving.{Delayed, NoneStarves, by-first, by-second, due-starves, first-alive, first-lower, giving-starves, merger-starves, passed-starves, second-alive, second-lower, starving-set}
@@ -21,11 +21,11 @@ use Rattle.sweep_model.proofs.Tidy.{resolve-unmerged}
 use Rattle.sweep_model.specs.Fit.{Fit, vertexCount}
 use Rattle.sweep_model.specs.Normalise.{resolve, wasMerged?}
 use Rattle.sweep_model.specs.State.{Problem, Stage, State, bare?, dropped, dropped?, gone?, has?, opened, stageOf, waiting, waits?}
-use Rattle.sweep_model.specs.Sweep.{anyDropped?, cause, drop, go, on, start, sweep, swept, turnsLeft, undecided}
+use Rattle.sweep_model.specs.Sweep.{anyDropped?, drop, go, on, start, sweep, swept, turnsLeft, undecided}
 use Rattle.sweep_model.specs.declared.Cause.the-variants.{Idle}
 use Rattle.truth.proofs.Booleans.{clash}
 
--- The state of a sweep in which none waits.
+-- A state of the sweep in which none waits and no vertex starves.
 pub record Rest (p : Problem) (entry : List ℕ) (s : State) : Type 0 where
   pub steady : Steady p entry s
   pub first-have : (v : ℕ) → v < p .first → has? (stageOf (s .stages) v) ≡ true
@@ -44,22 +44,23 @@ stirs-lacks stages v alive calm h =
     ⊎-elim is-bare (λ k. ⊎-elim is-dropped (λ e. absurd (h (rests-is (stageOf stages v) e calm))) k) (stage-cases (stageOf stages v) alive)
 
 module _ {p : Problem} {entry : List ℕ} (fit : Fit p entry) where
-  -- The invariant: from the first turn on no vertex starves below the scan's place.
-  unfoldable pub StarvesNot : Place → State → Type 0
-  StarvesNot (giving k) s = Unit {0}
-  StarvesNot (scanning n k) s = NoneStarves (p .first) (s .rows) (s .stages) k
+  -- From the first turn on no vertex starves below the scan's place.
+  unfoldable pub NotStarving : Place → State → Type 0
+  NotStarving (giving k) s = Unit {0}
+  NotStarving (scanning n k) s = NoneStarves (p .first) (s .rows) (s .stages) k
 
-  pub no-starving : Keeps p entry StarvesNot (Ended (Rest p entry))
-  unfolding StarvesNot swept drop bare?
+  -- Each step of the sweep keeps it.
+  pub no-starving : Keeps p entry NotStarving (λ x s. Unit {0})
+  unfolding NotStarving swept drop bare?
   no-starving =
       record {
-        same-literal = λ place s h r e. says-equal;
-        inverse-literal = λ place s h r e. says-different;
-        same-function = λ place s h r a b c e. says-equal;
-        other-function = λ place s h r a b c e. says-different;
+        same-literal = λ place s h r e. tt;
+        inverse-literal = λ place s h r e. tt;
+        same-function = λ place s h r a b c e. tt;
+        other-function = λ place s h r a b c e. tt;
         begins = tt;
         gives-row = λ v b s h g l m e r. tt;
-        lacks-input-row = λ v b s h g l m e r. says-rows;
+        lacks-input-row = λ v b s h g l m e r. tt;
         starts = λ s h g u r. giving-starves s h g;
         opens = λ n v s h c e r.
             let w = pick-waits p (s .stages) v e in
@@ -70,25 +71,31 @@ module _ {p : Problem} {entry : List ℕ} (fit : Fit p entry) where
         drops = λ n v b s d e f r. due-starves d dropped refl r;
         sweeps = λ n v b s d e f t r. due-starves d waiting refl r;
         merges = λ n v w b s d e f t r. merger-starves d fit w (twin-at p (s .stages) v 0 (length (s .stages)) w t) b r;
-        lacks-row = λ n v b s d e r. says-rows;
-        lacks-step = λ n v b s d e r. says-steps;
-        rests = λ n s h c e r.
-            rested
-            (record { steady = h; first-have = c .first-have; unsettled = c .unsettled; none-waits = pick-none p (s .stages) e; none-starves = r });
+        lacks-row = λ n v b s d e r. tt;
+        lacks-step = λ n v b s d e r. tt;
+        rests = λ n s h c e r. tt;
       }
 
-  -- Where the turns end without a verdict the state is such a state.
-  pub turns-rest : (s t : State) → start p entry ≡ on s → go p s ≡ on t → Rest p entry t
-  unfolding go StarvesNot
-  turns-rest s t e f =
-      let q = claim-on (go-claim fit no-starving (turnsLeft (s .stages)) s (claim-on (start-claim fit no-starving) e)) f in
+  -- So no vertex starves where the turns have ended.
+  quiet-rest : {s : State} → Quiet fit no-starving s → Rest p entry s
+  unfolding NotStarving
+  quiet-rest {s} q =
       record {
         steady = q .reached .steady;
         first-have = q .reached .scanned .first-have;
         unsettled = q .reached .scanned .unsettled;
-        none-waits = pick-none p (t .stages) (q .none-waits);
+        none-waits = pick-none p (s .stages) (q .none-waits);
         none-starves = q .reached .kept;
       }
+
+  -- Where the start goes on and the turns end without a verdict, none waits and no vertex starves.
+  pub turns-rest : (s t : State) → start p entry ≡ on s → go p s ≡ on t → Rest p entry t
+  unfolding go
+  turns-rest s t e f = quiet-rest (claim-on (go-claim fit no-starving (turnsLeft (s .stages)) s (claim-on (start-claim fit no-starving) e)) f)
+
+  -- So it is after Size and Idle.
+  pub sweep-rests : Resting (sweep p entry .verdict) → Rest p entry (sweep p entry .left)
+  sweep-rests r = quiet-rest (sweep-quiet fit no-starving r .0)
 
 module _ {p : Problem} {entry : List ℕ} {s : State} (rest : Rest p entry s) where
   lacks-here : (v : ℕ) → gone? (stageOf (s .stages) v) ≡ false → stageOf (s .stages) v ≢ opened → Lacking (s .stages) v
@@ -140,12 +147,8 @@ module _ {p : Problem} {entry : List ℕ} {s : State} (rest : Rest p entry s) wh
             (resolve-unmerged (rest .steady .sound .downward) (rest .steady .tidy) r (omega arith))
 
 module _ {p : Problem} {entry : List ℕ} (fit : Fit p entry) where
-  -- After Size and Idle none waits in the state that is left.
-  pub sweep-rests : Resting (sweep p entry .verdict) → Rest p entry (sweep p entry .left) × (sweep p entry .verdict ≡ undecided (cause (sweep p entry .left)))
-  sweep-rests r = at-rest (sweep-keeps fit (no-starving fit)) r
-
   -- The sweep never says Idle: both literals would have diagrams, and then it has ended.
   pub never-idle : sweep p entry .verdict ≢ undecided Idle
   never-idle e =
-      let h = sweep-rests (inr e) in
-      clash (both-have (h .0) (cause-idle (sweep p entry .left) (sym e ∙ h .1)) fit) (h .0 .unsettled .lacking)
+      let rest = sweep-rests fit (inr e) in
+      clash (both-have rest (cause-idle (sweep p entry .left) (sym e ∙ sweep-quiet fit (no-starving fit) (inr e) .1)) fit) (rest .unsettled .lacking)

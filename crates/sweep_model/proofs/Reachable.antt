@@ -191,7 +191,7 @@ module _ {p : Problem} {entry : List ℕ} {k : ℕ} {s : State} (steady : Steady
           ])
 
   -- The vertices with diagrams come before it.
-  giving-has : 1 ≤ k → (u : ℕ) → has? (stageOf (s .stages) u) ≡ true → u < k
+  pub giving-has : 1 ≤ k → (u : ℕ) → has? (stageOf (s .stages) u) ≡ true → u < k
   unfolding has?
   giving-has l u e =
       elim (decLt u k) [

@@ -68,6 +68,10 @@ pub resolve-merged : (rows : List ℕ) (r : ℕ) → merged? rows (vertexOf r) �
 unfolding resolve
 resolve-merged rows r e = rw e
 
+-- So it names the vertex of that row's literal.
+pub resolve-vertex : (rows : List ℕ) (r : ℕ) → merged? rows (vertexOf r) ≡ true → vertexOf (resolve rows r) ≡ vertexOf (firstWord rows (vertexOf r))
+resolve-vertex rows r e = ap vertexOf (resolve-merged rows r e) ∙ onto-vertex (firstWord rows (vertexOf r)) r
+
 -- What holds of both answers holds of what a literal became.
 pub resolve-cases :
     (rows : List ℕ) (r : ℕ) (P : ℕ → Type 0) → (merged? rows (vertexOf r) ≡ true → P (onto (firstWord rows (vertexOf r)) r))

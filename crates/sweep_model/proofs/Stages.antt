@@ -47,25 +47,15 @@ pub bare-lacks : (x : Stage) → bare? x ≡ true → has? x ≡ false
 unfolding has?
 bare-lacks x e = ap has? (bare-is x e)
 
--- Only a dropped vertex passes the test of one.
-pub dropped-is : (x : Stage) → dropped? x ≡ true → x ≡ dropped
-unfolding dropped?
-dropped-is bare e = clash e refl
-dropped-is waiting e = clash e refl
-dropped-is opened e = clash e refl
-dropped-is again e = clash e refl
-dropped-is dropped e = refl
-dropped-is gone e = clash e refl
-
 -- A dropped vertex has no diagram.
 pub dropped-lacks : (x : Stage) → dropped? x ≡ true → has? x ≡ false
-unfolding has?
-dropped-lacks x e = ap has? (dropped-is x e)
-
--- A dropped vertex was not merged.
-pub dropped-not-gone : (x : Stage) → dropped? x ≡ true → gone? x ≡ false
-unfolding gone?
-dropped-not-gone x e = ap gone? (dropped-is x e)
+unfolding dropped? has?
+dropped-lacks bare e = refl
+dropped-lacks waiting e = sym e
+dropped-lacks opened e = sym e
+dropped-lacks again e = sym e
+dropped-lacks dropped e = refl
+dropped-lacks gone e = refl
 
 -- A vertex that was not merged is bare or dropped, or has a diagram.
 pub stage-cases : (x : Stage) → gone? x ≡ false → (bare? x ≡ true) ⊎ ((dropped? x ≡ true) ⊎ (has? x ≡ true))
@@ -135,10 +125,6 @@ waits-wake gone = refl
 -- A woken vertex is not bare.
 pub bare-wake : (x : Stage) → bare? (wake x) ≡ false
 bare-wake x = not-true (bare? (wake x)) (λ e. clash (has-wake x) (bare-lacks (wake x) e))
-
--- A woken vertex is not dropped.
-pub dropped-wake : (x : Stage) → dropped? (wake x) ≡ false
-dropped-wake x = not-true (dropped? (wake x)) (λ e. clash (has-wake x) (dropped-lacks (wake x) e))
 
 -- A woken vertex was not merged.
 pub gone-wake : (x : Stage) → gone? (wake x) ≡ false

@@ -1,7 +1,7 @@
--- No vertex starves: below the scan's place every bare AND has an operand that is not at rest. So when none waits that operand is bare or dropped.
+-- No vertex starves: below the scan's place every bare AND has an operand that is not at rest.
 use mathlib.Core.Bool.{Bool, _&&_, false, true}
 use mathlib.Core.List.{List}
-use mathlib.Core.Logic.{_≢_, inl, inr}
+use mathlib.Core.Logic.{_≢_, inl, inr, ⊎-elim}
 use mathlib.Core.Path.{_∙_, _≡_, ap, ap₂, refl, sym}
 use Prim.Native.Nat.{_-_, _<_, _≤_, suc, ℕ}
 use native.Mathlib.Decide.{decLt, ℕ-discrete}
@@ -15,23 +15,23 @@ use Rattle.aig.specs.Lookup.{firstWord, secondWord}
 use Rattle.product_model.specs.Run.{Book}
 use Rattle.sweep_model.proofs.Choices.{LowestTwin}
 use Rattle.sweep_model.proofs.Merger.{merger-moves, merger-steady, merger-taken}
-use Rattle.sweep_model.proofs.Rows.{onto-vertex, resolve-merged}
+use Rattle.sweep_model.proofs.Rows.{resolve-vertex}
 use Rattle.sweep_model.proofs.Stages.{bare-not-gone, stage-within, waits-wake}
 use Rattle.sweep_model.proofs.Steady.{Due, Giving, Steady, alive-unmerged, due-alive, due-within}
-use Rattle.sweep_model.proofs.Takes.{Fate, Newly, Taken, either?, left-alone, taken-bare, target, woken}
-use Rattle.sweep_model.proofs.Tidy.{SamePair, Tidy, crossed, made-merged, merged-equal, merged-made, resolve-kept, straight}
+use Rattle.sweep_model.proofs.Takes.{Fate, Newly, Taken, either?, left-alone, taken-bare, target, target-fate, woken}
+use Rattle.sweep_model.proofs.Tidy.{SamePair, Tidy, crossed, made-merged, merged-equal, resolve-kept, straight}
 use Rattle.sweep_model.specs.Fit.{Downward, Fit, vertexCount}
 use Rattle.sweep_model.specs.Normalise.{merged?, resolve, wake, wasMerged?}
 use Rattle.sweep_model.specs.State.{Problem, Stage, State, bare?, gone, gone?, has?, open?, opened, stageOf, waiting, waits?, withBook}
 use Rattle.sweep_model.specs.Sweep.{at, meet, ready?}
-use Rattle.truth.proofs.Booleans.{bool-cases, clash, or-right}
+use Rattle.truth.proofs.Booleans.{bool-cases, clash, not-true, or-right}
 
--- At rest is a vertex that is open and does not wait. Vertex v has an operand that is not at rest.
+-- Vertex v has an operand that is not at rest: open and not waiting.
 pub data Delayed (rows : List ℕ) (stages : List Stage) (v : ℕ) : Type 0 where
   by-first : stageOf stages (vertexOf (firstWord rows v)) ≢ opened → Delayed rows stages v
   by-second : stageOf stages (vertexOf (secondWord rows v)) ≢ opened → Delayed rows stages v
 
--- Every bare AND below vertex k has one.
+-- Every bare AND below vertex k has such an operand.
 abbrev pub NoneStarves : ℕ → List ℕ → List Stage → ℕ → Type 0
 NoneStarves first rows stages k = (v : ℕ) → first ≤ v → v < k → bare? (stageOf stages v) ≡ true → Delayed rows stages v
 
@@ -78,21 +78,12 @@ module _ {first count : ℕ} {rows : List ℕ} {old new : List Stage} (d : Downw
 
   -- A target is never left at rest.
   target-stirs : (v : ℕ) → v < count → Newly first rows old v → target rows v ≢ 0 → stageOf new (target rows v) ≢ opened
-  target-stirs v l w nonzero = go (h .fate (target rows v) (t .first-stays v made l))
+  target-stirs v l w nonzero =
+      ⊎-elim (λ a e. wake-stirs (stageOf old (target rows v)) (sym a ∙ e)) (λ a e. lacks-stirs (stageOf old (target rows v)) (lacks (a .1)) (sym (a .0) ∙ e))
+      (target-fate t h v l w nonzero)
     where
-      made : first ≤ v
-      made = merged-made first rows v (w .is-merged)
-
       lacks : either? old v (target rows v) ≡ false → has? (stageOf old (target rows v)) ≡ false
-      lacks e =
-          elim (bool-cases (has? (stageOf old (target rows v)))) [
-            | inl f ↦ clash (or-right (has? (stageOf old v)) (has? (stageOf old (target rows v))) f) e
-            | inr f ↦ f
-          ]
-
-      go : Fate first rows first (count - first) old new (target rows v) → stageOf new (target rows v) ≢ opened
-      go (left-alone a f) = λ e. lacks-stirs (stageOf old (target rows v)) (lacks (f v made (omega arith) w refl nonzero)) (sym a ∙ e)
-      go (woken a z u m i x j f) = λ e. wake-stirs (stageOf old (target rows v)) (sym a ∙ e)
+      lacks e = not-true (has? (stageOf old (target rows v))) (λ f. clash (or-right (has? (stageOf old v)) (has? (stageOf old (target rows v))) f) e)
 
   -- So what became of a literal that was not at rest is not at rest.
   pub became-stirs :
@@ -100,8 +91,7 @@ module _ {first count : ℕ} {rows : List ℕ} {old new : List Stage} (d : Downw
       → stageOf new (vertexOf (resolve rows r)) ≢ opened
   became-stirs r l alive k nonzero =
       elim (bool-cases (wasMerged? first rows (vertexOf r))) [
-        | inl m ↦ (let e : vertexOf (resolve rows r) ≡ target rows (vertexOf r) =
-            ap (λ (x : ℕ). vertexOf x) (resolve-merged rows r (merged-equal first rows (vertexOf r) m)) ∙ onto-vertex (firstWord rows (vertexOf r)) r in
+        | inl m ↦ (let e = resolve-vertex rows r (merged-equal first rows (vertexOf r) m) in
             rw e (target-stirs (vertexOf r) l (record { is-merged = m; not-gone = alive }) (rw e at nonzero)))
         | inr m ↦ rw (resolve-kept d r m) (stirs-still (vertexOf r) m k)
       ]
@@ -133,10 +123,11 @@ module _ {p : Problem} {entry : List ℕ} {s : State} (steady : Steady p entry s
     plain-row =
         steady .tidy .unfolded v made within (sym (made-merged (p .first) (s .rows) v made) ∙ sym (steady .staged .gone-merged v within) ∙ alive)
 
-    -- Nor is an operand of an unmerged AND the constant.
+    -- The first operand of an unmerged AND is not the constant.
     pub first-proper : vertexOf (firstWord (s .rows) v) ≢ 0
     first-proper e = omega (arith, plain-row .unfixed)
 
+    -- Nor is the second.
     pub second-proper : vertexOf (secondWord (s .rows) v) ≢ 0
     second-proper e = omega (arith, plain-row .unfixed, plain-row .ordered)
 
@@ -165,17 +156,21 @@ pub passed-starves :
 unfolding ready?
 passed-starves {p} s v h e f u made l k =
     elim (ℕ-discrete u v) [
-      | yes i ↦ rw i (here (open? (stageOf (s .stages) (vertexOf (firstWord (s .rows) v)))) refl (open? (stageOf (s .stages) (vertexOf (secondWord (s .rows) v)))) refl
-          (sym (ap (λ (b : Bool). b && open? (stageOf (s .stages) (vertexOf (firstWord (s .rows) v))) && open? (stageOf (s .stages) (vertexOf (secondWord (s .rows) v))))
-          (ap₂ _&&_ (le-leb (p .first) v (omega arith)) (rw i at k))) ∙ e))
+      | yes i ↦ rw i (here (open? one) refl (open? two) refl
+          (sym (ap (λ (b : Bool). b && open? one && open? two) (ap₂ _&&_ (le-leb (p .first) v (omega arith)) (rw i at k))) ∙ e))
       | no i ↦ f u made (omega arith) k
     ]
   where
-    here : (a : Bool) → open? (stageOf (s .stages) (vertexOf (firstWord (s .rows) v))) ≡ a → (b : Bool)
-        → open? (stageOf (s .stages) (vertexOf (secondWord (s .rows) v))) ≡ b → a && b ≡ false → Delayed (s .rows) (s .stages) v
+    one : Stage
+    one = stageOf (s .stages) (vertexOf (firstWord (s .rows) v))
+
+    two : Stage
+    two = stageOf (s .stages) (vertexOf (secondWord (s .rows) v))
+
+    here : (a : Bool) → open? one ≡ a → (b : Bool) → open? two ≡ b → a && b ≡ false → Delayed (s .rows) (s .stages) v
     here true i true j c = clash refl c
-    here true i false j c = by-second (shut-stirs (stageOf (s .stages) (vertexOf (secondWord (s .rows) v))) j)
-    here false i b j c = by-first (shut-stirs (stageOf (s .stages) (vertexOf (firstWord (s .rows) v))) i)
+    here true i false j c = by-second (shut-stirs two j)
+    here false i b j c = by-first (shut-stirs one i)
 
 module _ {p : Problem} {entry : List ℕ} {n v : ℕ} {s : State} (due : Due p entry n v s) where
   -- The vertex whose product is taken gets another stage.

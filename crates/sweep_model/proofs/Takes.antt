@@ -1,7 +1,7 @@
 -- What newly merged vertices hand over, vertex by vertex.
 use mathlib.Core.Bool.{Bool, _&&_, _||_, cond, false, not, true}
 use mathlib.Core.List.{List}
-use mathlib.Core.Logic.{_≢_}
+use mathlib.Core.Logic.{_⊎_, _≢_, inl, inr}
 use mathlib.Core.Path.{_∙_, _≡_, ap, ap₂, refl, subst, sym}
 use Prim.Native.Nat.{_+_, _-_, _<_, _≤_, suc, zero, ℕ}
 use native.Mathlib.Decide.{ℕ-discrete}
@@ -10,11 +10,11 @@ use lib.ListN.{length, length-set, set}
 use lib.Seq.{getD-set-other, getD-set-same}
 use Rattle.aig.specs.Literal.{vertexOf}
 use Rattle.aig.specs.Lookup.{firstWord}
-use Rattle.sweep_model.proofs.Stages.{bare-wake, dropped-wake, gone-is, gone-wake, has-wake, open-wake, stage-within, wake-wake, woken-constant, woken-length, woken-other, woken-same}
+use Rattle.sweep_model.proofs.Stages.{bare-wake, gone-is, gone-wake, has-wake, open-wake, stage-within, wake-wake, woken-constant, woken-length, woken-other, woken-same}
 use Rattle.sweep_model.proofs.Tidy.{Tidy, first-unmerged, made-merged, merged-made}
 use Rattle.sweep_model.specs.Fit.{Downward}
 use Rattle.sweep_model.specs.Normalise.{merged?, takeAt, takesFrom, wake, wakeAt, wasMerged?}
-use Rattle.sweep_model.specs.State.{Stage, bare?, dropped?, gone, gone?, has?, open?, opened, stageOf}
+use Rattle.sweep_model.specs.State.{Stage, bare?, gone, gone?, has?, open?, opened, stageOf}
 use Rattle.truth.proofs.Booleans.{clash}
 
 -- The vertex of the first word of a row: what a merged vertex was merged into.
@@ -224,14 +224,6 @@ module _ {first : ℕ} {rows : List ℕ} {k n : ℕ} {old new : List Stage} (h :
       go (left-alone a f) = sym (ap bare? a) ∙ e
       go (woken a z v l i w j f) = clash (sym (ap bare? a) ∙ e) (bare-wake (stageOf old u))
 
-  -- A vertex that is dropped was so before.
-  pub taken-dropped : dropped? (stageOf new u) ≡ true → dropped? (stageOf old u) ≡ true
-  taken-dropped e = go (h .fate u unmerged)
-    where
-      go : Fate first rows k n old new u → dropped? (stageOf old u) ≡ true
-      go (left-alone a f) = sym (ap dropped? a) ∙ e
-      go (woken a z v l i w j f) = clash (sym (ap dropped? a) ∙ e) (dropped-wake (stageOf old u))
-
   -- It is not gone.
   pub taken-alive : gone? (stageOf old u) ≡ false → gone? (stageOf new u) ≡ false
   taken-alive e = go (h .fate u unmerged)
@@ -239,6 +231,23 @@ module _ {first : ℕ} {rows : List ℕ} {k n : ℕ} {old new : List Stage} (h :
       go : Fate first rows k n old new u → gone? (stageOf new u) ≡ false
       go (left-alone a f) = ap gone? a ∙ e
       go (woken a z v l i w j f) = ap gone? a ∙ gone-wake (stageOf old u)
+
+-- The target of a newly merged vertex is woken, or neither had a diagram and it keeps its stage.
+pub target-fate :
+    {first count : ℕ} {rows : List ℕ} {old new : List Stage} → Tidy first count rows → Taken first rows first (count - first) old new → (v : ℕ) → v < count
+    → Newly first rows old v → target rows v ≢ 0
+    → (stageOf new (target rows v) ≡ wake (stageOf old (target rows v)))
+    ⊎ ((stageOf new (target rows v) ≡ stageOf old (target rows v)) × (either? old v (target rows v) ≡ false))
+target-fate {first} {count} {rows} {old} {new} t h v l w nonzero = go (h .fate (target rows v) (t .first-stays v made l))
+  where
+    made : first ≤ v
+    made = merged-made first rows v (w .is-merged)
+
+    go : Fate first rows first (count - first) old new (target rows v)
+        → (stageOf new (target rows v) ≡ wake (stageOf old (target rows v)))
+        ⊎ ((stageOf new (target rows v) ≡ stageOf old (target rows v)) × (either? old v (target rows v) ≡ false))
+    go (left-alone a f) = inr (a, f v made (omega arith) w refl nonzero)
+    go (woken a z u m i x j f) = inl a
 
 -- The constant keeps its stage.
 pub taken-constant :

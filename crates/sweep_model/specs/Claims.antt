@@ -11,7 +11,7 @@ use Rattle.aig.specs.Lookup.{firstWord, secondWord}
 use Rattle.sweep_model.specs.State.{Problem, functionOf, literalFunction}
 use Rattle.sweep_model.specs.Sweep.{Verdict, undecided}
 use Rattle.sweep_model.specs.declared.Cause.the-variants.{Rows, Steps}
-use Rattle.truth.specs.Parts.{alike?, size, together}
+use Rattle.truth.specs.Parts.{alike?, together}
 use Rattle.truth.specs.Steps.{steps}
 use Rattle.truth.specs.Truth.{Truth, conj, constant?}
 
@@ -112,11 +112,6 @@ module _ (first count : ℕ) (marks rows operands : List ℕ) where
   pub record AtRest : Type 0 where
     pub inputs : (v : ℕ) → 1 ≤ v → v < first → markOf v ≡ 1
     pub ands : (v : ℕ) → Made v → markOf v ≡ 0 → Excused v
-
--- "After Size, some vertex is marked 2; every vertex marked 2 is larger than the size limit."
-pub record AfterSize (p : Problem) (marks : List ℕ) : Type 0 where
-  pub some-large : (v : ℕ) × (v < length (p .functions)) × (getD marks v 0 ≡ 2)
-  pub large : (v : ℕ) → getD marks v 0 ≡ 2 → p .limits .size < size (functionOf p v)
 
 -- "neither constant nor equal or inverse to a function marked 1": a literal.
 pub record Unmatched (p : Problem) (marks : List ℕ) (r : ℕ) : Type 0 where
