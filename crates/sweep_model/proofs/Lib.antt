@@ -1,3 +1,4 @@
+pub mod Cards
 pub mod Functions
 pub mod Rows
 pub mod Normal

@@ -4,3 +4,4 @@ pub mod Fit
 pub mod Sweep
 pub mod Reply
 pub mod Claims
+pub mod Cards

@@ -1,7 +1,7 @@
 -- Step 1: normalising, and what a merged vertex hands over.
 use mathlib.Core.Bool.{Bool, _&&_, _||_, cond, not}
 use mathlib.Core.List.{List}
-use Prim.Native.Nat.{_%_, _*_, _+_, _-_, _/_, suc, zero, ℕ}
+use Prim.Native.Nat.{_*_, _-_, suc, zero, ℕ}
 use lib.Dec.{eqb, leb}
 use lib.ListN.{length, set}
 use Rattle.aig.specs.Fold.{foldOf}

@@ -1,0 +1,87 @@
+-- Bench cards on replies, of the sweep alone: tables of at most two inputs.
+use mathlib.Core.Bool.{false, true}
+use mathlib.Core.List.{List, [], _++_, _∷_}
+use mathlib.Core.Path.{_≡_}
+use Prim.Native.Nat.{suc, zero, ℕ}
+use lib.ListN.{drop, getD, length}
+use Rattle.aig.specs.Lookup.{firstWord, ownWords, secondWord}
+use Rattle.aig.specs.Values.{literalValue}
+use Rattle.sweep_model.specs.State.{Limits, Problem}
+use Rattle.sweep_model.specs.Sweep.{Answer, Verdict, different, equal, sweep, undecided}
+use Rattle.sweep_model.specs.declared.Cause.the-variants.{Rows, Size, Steps}
+use Rattle.truth.specs.Truth.{Truth, conj, constantly, input, invert}
+
+-- The functions of n made vertices after others, by their rows.
+unfoldable pub madeFunctions : ℕ → List Truth → ℕ → List ℕ → List Truth
+madeFunctions inputs fs zero words = fs
+madeFunctions inputs fs (suc n) words =
+    madeFunctions inputs (fs ++ (conj (value (getD words 0 0)) (value (getD words 1 0)) ∷ [])) n (drop 2 words)
+  where
+    value : ℕ → Truth
+    value r = literalValue invert conj (constantly inputs false) fs r
+
+-- The constant and the inputs from vertex i on.
+unfoldable pub firstFunctions : ℕ → ℕ → ℕ → List Truth
+firstFunctions inputs i zero = []
+firstFunctions inputs i (suc k) = input inputs i ∷ firstFunctions inputs (suc i) k
+
+-- A comparison of two literals over the rows of so many made vertices.
+abbrev pub cardProblem : ℕ → ℕ → List ℕ → ℕ → ℕ → Limits → Problem
+cardProblem inputs made words left right limits =
+    record {
+      inputs = inputs;
+      functions = madeFunctions inputs (firstFunctions inputs 0 (suc inputs)) made words;
+      first = suc inputs;
+      left = left;
+      right = right;
+      limits = limits;
+    }
+
+-- Verdict, rows and steps of a sweep.
+pub record Told : Type 0 where
+  pub verdict : Verdict
+  pub rows : ℕ
+  pub steps : ℕ
+
+abbrev pub told : Answer → Told
+told a = record { verdict = a .verdict; rows = length (a .left .book .store); steps = a .left .book .steps }
+
+abbrev pub says : Verdict → ℕ → ℕ → Told
+says x rows steps = record { verdict = x; rows = rows; steps = steps }
+
+abbrev pub limits : ℕ → ℕ → ℕ → Limits
+limits size rows steps = record { size = size; rows = rows; steps = steps }
+
+abbrev pub answer : ℕ → ℕ → List ℕ → ℕ → ℕ → Limits → Answer
+answer inputs made words left right l = sweep (cardProblem inputs made words left right l) (ownWords 0 (suc inputs) ++ words)
+
+-- "The and/or pair above": a AND b is vertex 3, the AND of their inversions vertex 4; outputs 6 and 9.
+abbrev pub andOr : Limits → Answer
+andOr l = answer 2 2 (2 ∷ 4 ∷ 3 ∷ 5 ∷ []) 6 9 l
+
+-- "`xor 2 4` output 6 against `or 2 4`, `and 2 4`, `and 6 9` output 10: made 6": outputs 11 and 16.
+abbrev pub xorPair : Limits → Answer
+xorPair l = answer 2 6 (2 ∷ 5 ∷ 3 ∷ 4 ∷ 7 ∷ 9 ∷ 3 ∷ 5 ∷ 2 ∷ 4 ∷ 13 ∷ 15 ∷ []) 11 16 l
+
+-- "limits 4,096 unless said"
+abbrev pub usual : Limits
+usual = limits 4096 4096 4096
+
+pub record SweepCards : Type 0 where
+  -- "row limit 3 gives Rows at vertex 4, rows 3; step limit 5 gives Steps at vertex 4, steps 5, and 6 gives Different; size limit 1
+  -- gives Size, rows 2, steps 6."
+  pub and-or : told (andOr usual) ≡ says (different (false ∷ true ∷ [])) 4 6
+  pub and-or-rows : told (andOr (limits 4096 3 4096)) ≡ says (undecided (Rows 4)) 3 6
+  pub and-or-steps : told (andOr (limits 4096 4096 5)) ≡ says (undecided (Steps 4)) 3 5
+  pub and-or-six : told (andOr (limits 4096 4096 6)) ≡ says (different (false ∷ true ∷ [])) 4 6
+  pub and-or-size : told (andOr (limits 1 4096 4096)) ≡ says (undecided Size) 2 6
+  -- "Equal, rows 7, steps 18; vertex 8's row becomes (11, 11)."
+  pub xor-pair : told (xorPair usual) ≡ says equal 7 18
+  pub xor-first : firstWord (xorPair usual .left .rows) 8 ≡ 11
+  pub xor-second : secondWord (xorPair usual .left .rows) 8 ≡ 11
+  -- "`and 2 4` output 6 against `or 3 5` output 7: .. Equal, rows 0, steps 0."
+  pub and-twice : told (answer 2 1 (2 ∷ 4 ∷ []) 6 6 usual) ≡ says equal 0 0
+  -- "output 2 against 3, one input: Different, setting 0, rows 0."
+  pub inverse-wires : told (answer 1 0 [] 2 3 usual) ≡ says (different (false ∷ [])) 0 0
+  -- "no inputs, 0 against 1: Different, empty setting."
+  pub no-inputs : told (answer 0 0 [] 0 1 usual) ≡ says (different []) 0 0
