@@ -8,18 +8,10 @@ use native.Mathlib.Omega.{arith}
 use Rattle.product_model.proofs.Conjunction.{parts-skip}
 use Rattle.product_model.proofs.Ran.{Proper, Ran, add-ran, ran-as}
 use Rattle.product_model.specs.Run.{Book, addPart}
-use Rattle.truth.proofs.Booleans.{clash, not-true}
-use Rattle.truth.proofs.Equality.{same-equal}
-use Rattle.truth.proofs.Parts.{parts-constant, parts-node}
-use Rattle.truth.proofs.Values.{value-constant}
+use Rattle.truth.proofs.Parts.{constants-differ, parts-constant, parts-node}
 use Rattle.truth.specs.Distinct.{among}
 use Rattle.truth.specs.Parts.{alike?, parts}
-use Rattle.truth.specs.Truth.{Truth, constantly, input, same?, valueAt}
-
-constants-differ : (n : ℕ) → same? (constantly n false) (constantly n true) ≡ false
-constants-differ n =
-    not-true (same? (constantly n false) (constantly n true))
-    (λ e. clash (value-constant n true []) (ap (λ f. valueAt f []) (sym (same-equal (constantly n false) (constantly n true) e)) ∙ value-constant n false []))
+use Rattle.truth.specs.Truth.{Truth, constantly, input}
 
 -- "Each input gets its row": input i + 1 of n has one part, the first of the n - i inputs that are left from it on.
 pub parts-input : (n i : ℕ) → i < n → (t : Truth) → among alike? t (input (n - i) 1 ∷ []) ≡ among alike? t (parts (input n (suc i)))
