@@ -2,6 +2,7 @@ pub mod FirstVertexLaws
 pub mod FoldLaws
 pub mod IndexLaws
 pub mod LiteralLaws
+pub mod OwnLaws
 pub mod TruthLaws
 pub mod ValuesLaws
 mod WalkLaws

@@ -4,6 +4,7 @@ use mathlib.Core.Path.{_≡_, ap, refl, subst, sym, _∙_}
 use Prim.Native.Nat.{_*_, _+_, _<_, _≤_, suc, zero, ℕ}
 use native.Mathlib.Omega.{arith}
 use lib.ListN.{getD, length, length-map}
+use Rattle.aig.proofs.OwnLaws.{length-own, own-holds}
 use Rattle.aig.specs.Lookup.{Holds, ownWords}
 use Rattle.loader.proofs.GateLaws.{gates-ready, gates-step, literal-for-below}
 use Rattle.loader.proofs.GrownLaws.{step-below, step-then}
@@ -13,27 +14,6 @@ use Rattle.loader.specs.Grown.{Ready, Step}
 use Rattle.loader.specs.Load.{tallyOf}
 use Rattle.netlist.specs.Meaning.{andCount}
 use Rattle.netlist.specs.Netlist.{Netlist}
-
--- The first vertices hold their own literals.
-own-holds : (v n i : ℕ) → i < n → Holds (ownWords v n) i (2 * (v + i)) (2 * (v + i))
-unfolding ownWords
-own-holds v zero i h = absurd (omega arith)
-own-holds v (suc n) zero h = record { first = omega arith; second = omega arith }
-own-holds v (suc n) (suc i) h =
-    let ih = own-holds (suc v) n i (omega arith) in
-    let ws : List ℕ = 2 * v ∷ 2 * v ∷ ownWords (suc v) n in
-    let e : 2 * suc i ≡ suc (suc (2 * i)) = omega arith in
-    let f : 2 * suc i + 1 ≡ suc (suc (2 * i + 1)) = omega arith in
-    record {
-      first = ap (λ (k : ℕ). getD ws k 0) e ∙ ih .first ∙ omega arith;
-      second = ap (λ (k : ℕ). getD ws k 0) f ∙ ih .second ∙ omega arith;
-    }
-
--- They have two words each.
-pub length-own : (v n : ℕ) → length (ownWords v n) ≡ 2 * n
-unfolding ownWords
-length-own v zero = refl
-length-own v (suc n) = omega (arith, length-own (suc v) n)
 
 -- The graph of the constant and the inputs.
 pub empty-good : (n : ℕ) → Good n (emptyBuild n)

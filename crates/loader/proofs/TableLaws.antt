@@ -5,10 +5,11 @@ use Prim.Native.Nat.{_*_, _+_, _-_, _<_, _≤_, suc, zero, ℕ}
 use native.Mathlib.Omega.{arith}
 use lib.ListN.{drop, getD, length, length-append, length-drop}
 use lib.Seq.{drop-append-seam, drop-at, take-append-add, take-all, take-append-seam}
+use Rattle.aig.proofs.OwnLaws.{length-own}
 use Rattle.aig.specs.Fold.{Unfolded}
 use Rattle.aig.specs.Lookup.{firstWord, ownWords, secondWord}
 use Rattle.loader.proofs.GrownLaws.{length-row-words, pairs-row-words}
-use Rattle.loader.proofs.PairLaws.{left-below, length-left, length-own, length-right, pair-asked, pair-good, pair-step, right-below}
+use Rattle.loader.proofs.PairLaws.{left-below, length-left, length-right, pair-asked, pair-good, pair-step, right-below}
 use Rattle.loader.specs.Build.{Build, PairBuilt, buildPair, emptyBuild}
 use Rattle.loader.specs.Good.{Good, Row}
 use Rattle.loader.specs.Grown.{Grown, rowWords, rowsAfter}

@@ -17,6 +17,11 @@ use Rattle.truth.proofs.Steps.{steps-symmetric}
 use Rattle.truth.specs.Steps.{steps}
 use Rattle.truth.specs.Truth.{Truth}
 
+-- Operands of the same functions, in either order, take the same steps.
+pub pair-steps : {f g f′ g′ : Truth} → SamePair f g f′ g′ → steps f g ≡ steps f′ g′
+pair-steps (straight a b) = ap₂ steps a b
+pair-steps {f′ = f′} {g′ = g′} (crossed a b) = ap₂ steps a b ∙ steps-symmetric g′ f′
+
 module _ {p : Problem} {entry : List ℕ} (fit : Fit p entry) where
   module _ {s : State} (h : Steady p entry s) (v : ℕ) (made : p .first ≤ v) (within : v < vertexCount p) (unmerged : merged? (s .rows) v ≡ false) where
     -- The row of a vertex that was not merged has the operand functions that it had at entry, up to order.
@@ -41,11 +46,7 @@ module _ {p : Problem} {entry : List ℕ} (fit : Fit p entry) where
     pub steps-kept :
         steps (literalFunction p (firstWord (s .rows) v)) (literalFunction p (secondWord (s .rows) v))
         ≡ steps (literalFunction p (firstWord entry v)) (literalFunction p (secondWord entry v))
-    steps-kept = go operands-kept
-      where
-        go : {f g f′ g′ : Truth} → SamePair f g f′ g′ → steps f g ≡ steps f′ g′
-        go (straight a b) = ap₂ steps a b
-        go {f} {g} (crossed a b) = ap₂ steps a b ∙ steps-symmetric _ _
+    steps-kept = pair-steps operands-kept
 
   steady-ends : Endings p entry (λ x s. Steady p entry s)
   steady-ends =

@@ -185,12 +185,14 @@ abbrev pub andAt : Problem → List ℕ → ℕ → And
 andAt p rows v = (literalFunction p (firstWord rows v), literalFunction p (secondWord rows v))
 
 module _ (p : Problem) (rows : List ℕ) where
-  ands-length : (n v : ℕ) → length (andsFrom p rows v n) ≡ n
+  -- There is an AND a vertex,
+  pub ands-length : (n v : ℕ) → length (andsFrom p rows v n) ≡ n
   unfolding andsFrom
   ands-length zero v = refl
   ands-length (suc n) v = ap suc (ands-length n (suc v))
 
-  ands-at : (n v i : ℕ) (d : And) → i < n → getD (andsFrom p rows v n) i d ≡ andAt p rows (v + i)
+  -- that of its row.
+  pub ands-at : (n v i : ℕ) (d : And) → i < n → getD (andsFrom p rows v n) i d ≡ andAt p rows (v + i)
   unfolding andsFrom
   ands-at zero v i d h = absurd (omega arith)
   ands-at (suc n) v zero d h = let e : v + 0 ≡ v = omega arith in rw e

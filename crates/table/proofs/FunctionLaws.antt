@@ -3,7 +3,7 @@ use Prim.Native.Nat.{_*_, _+_, _<_, _≤_, suc, zero, ℕ}
 use Rattle.aig.proofs.TruthLaws.{functions}
 use Rattle.aig.proofs.ValuesLaws.{all-good, value-good}
 use Rattle.aig.specs.Values.{AllGood}
-use Rattle.table.proofs.MeaningLaws.{length-values, literal-mapped, row-value, value-kept, values-good, values-mapped}
+use Rattle.table.proofs.MeaningLaws.{length-values, literal-mapped, row-value, value-kept, values-good, values-mapped, values-unique}
 use Rattle.table.specs.Accepted.{Downward, RowBelow}
 use Rattle.table.specs.Table.{Graph, firstFunctions, functionsOf, inputsFrom, outputFunction, outputValue, outputs, valuesOn}
 use Rattle.table.specs.Values.{Homomorphism, rowValue, vertexValues}
@@ -70,6 +70,17 @@ first-functions-perfect n =
     all-good (Perfect n) (constantly n false) (perfect-constant n false) (inputsFrom n 0 (suc n))
     (λ v h. perfect-inputs n 0 (suc n) v (omega (arith, length-inputs n 0 (suc n))))
 
+inputs-at : (n i k v : ℕ) → v < k → getD (inputsFrom n i k) v (constantly n false) ≡ input n (i + v)
+unfolding inputsFrom
+inputs-at n i zero v h = absurd (omega arith)
+inputs-at n i (suc k) zero h = ap (input n) (omega arith)
+inputs-at n i (suc k) (suc v) h = inputs-at n (suc i) k v (omega arith) ∙ ap (input n) (omega arith)
+
+-- "vertices 1 to inputs are the inputs"
+pub first-function : (n v : ℕ) → v < suc n → getD (firstFunctions n) v (constantly n false) ≡ input n v
+unfolding firstFunctions
+first-function n v h = inputs-at n 0 (suc n) v h ∙ ap (input n) (omega arith)
+
 -- "Vertex 0 is constant false".
 pub first-function-false : (n : ℕ) → getD (firstFunctions n) 0 (constantly n false) ≡ constantly n false
 unfolding firstFunctions inputsFrom input constantly
@@ -95,6 +106,14 @@ module _ (g : Graph) where
       (omega (arith, length-first-functions (g .inputs)))
       ∙ first-function-false (g .inputs)
 
+  -- The first vertices have the functions of the constant and the inputs.
+  pub function-first : (v : ℕ) → v < suc (g .inputs) → getD (functionsOf g) v (constantly (g .inputs) false) ≡ input (g .inputs) v
+  unfolding functionsOf
+  function-first v h =
+      value-kept invert conj (constantly (g .inputs) false) (firstFunctions (g .inputs)) (g .rows) v (constantly (g .inputs) false)
+      (omega (arith, length-first-functions (g .inputs)))
+      ∙ first-function (g .inputs) v h
+
   -- There are as many functions as vertices.
   pub length-functions : length (functionsOf g) ≡ suc (g .inputs) + length (g .rows)
   unfolding functionsOf
@@ -112,3 +131,17 @@ module _ (g : Graph) where
       let below = subst (λ (v : ℕ). RowBelow (2 * (v + i)) (getD (g .rows) i (0, 0))) (sym n) (h i l) in
       ap (λ (v : ℕ). getD (functionsOf g) (v + i) (constantly (g .inputs) false)) (sym n)
       ∙ row-value invert conj (constantly (g .inputs) false) (firstFunctions (g .inputs)) (g .rows) i l below
+
+  -- Given functions of all vertices that begin with those of the constant and the inputs and agree with every row are the vertices' functions.
+  pub functions-unique : (fs : List Truth) → Downward (1 + g .inputs) (g .rows) → length fs ≡ 1 + g .inputs + length (g .rows)
+      → ((v : ℕ) → v < 1 + g .inputs → getD fs v (constantly (g .inputs) false) ≡ input (g .inputs) v)
+      → ((i : ℕ) → i < length (g .rows)
+      → getD fs (1 + g .inputs + i) (constantly (g .inputs) false)
+      ≡ rowValue invert conj (constantly (g .inputs) false) fs (getD (g .rows) i (0, 0)))
+      → functionsOf g ≡ fs
+  unfolding functionsOf
+  functions-unique fs down long first rows =
+      let n : length (firstFunctions (g .inputs)) ≡ 1 + g .inputs = length-first-functions (g .inputs) ∙ omega arith in
+      values-unique invert conj (constantly (g .inputs) false) (firstFunctions (g .inputs)) (g .rows) fs (rw n down) (omega arith)
+      (λ v h. first v (omega arith) ∙ sym (first-function (g .inputs) v (omega arith)))
+      (λ i h. rw n (rows i h))

@@ -1,13 +1,13 @@
 -- The values of vertices over any domain: more rows, one row's value, a row replaced, and maps between domains.
-use Prim.Native.Nat.{_*_, _+_, _<_, suc, ℕ}
+use Prim.Native.Nat.{_*_, _+_, _-_, _<_, suc, zero, ℕ}
 use Rattle.aig.proofs.LiteralLaws.{vertex-below}
 use Rattle.aig.proofs.ValuesLaws.{all-good, value-good}
 use Rattle.aig.specs.Literal.{inverted?, vertexOf}
 use Rattle.aig.specs.Values.{Algebra, AllGood, literalValue}
-use Rattle.table.specs.Accepted.{RowBelow}
+use Rattle.table.specs.Accepted.{Downward, RowBelow}
 use Rattle.table.specs.Values.{Homomorphism, Pair, rowValue, vertexValues}
 use lib.ListN.{List·getD-append, List·getD-map, drop, getD, length, length-append, set, take}
-use lib.Seq.{getD-append-seam, length-take-le, set-split, split-at}
+use lib.Seq.{ext-getD, getD-append-seam, length-take-le, set-split, split-at}
 use mathlib.Core.Bool.{Bool, cond, false, true}
 use mathlib.Core.List.{List, [], _++_, _∷_, map}
 use mathlib.Core.Path.{_∙_, _≡_, ap, ap₂, refl, sym}
@@ -116,6 +116,35 @@ module _ {A : Type 0} (invert : A → A) (both : A → A → A) (falsum : A) whe
           ≡ literalValue invert both falsum (vertexValues invert both falsum vs rs) (q .1)
           → vertexValues invert both falsum vs (set rs i q) ≡ vertexValues invert both falsum vs rs
       operands-set q l k e f = row-set q l k (ap₂ both e f)
+
+  -- Given values of all vertices that begin with the first ones and agree with every row are the vertices' values.
+  pub values-unique : (vs : List A) (rs : List Pair) (us : List A) → Downward (length vs) rs → length us ≡ length vs + length rs
+      → ((v : ℕ) → v < length vs → getD us v falsum ≡ getD vs v falsum)
+      → ((i : ℕ) → i < length rs → getD us (length vs + i) falsum ≡ rowValue invert both falsum us (getD rs i (0, 0)))
+      → vertexValues invert both falsum vs rs ≡ us
+  values-unique vs rs us down long first rows =
+      ext-getD falsum ws us (length-values vs rs ∙ sym long) (λ v h. upTo (suc v) v (omega arith) (omega (arith, length-values vs rs)))
+    where
+      ws : List A
+      ws = vertexValues invert both falsum vs rs
+
+      upTo : (n v : ℕ) → v < n → v < length vs + length rs → getD ws v falsum ≡ getD us v falsum
+      upTo zero v h l = absurd (omega arith)
+      upTo (suc n) v h l =
+          elim (decLt v (length vs)) [
+            | yes k ↦ value-kept vs rs v falsum k ∙ sym (first v k)
+            | no k ↦ later (λ r m. rw (upTo n (vertexOf r) (omega arith) (omega arith)) refl) (v - length vs) (omega arith) (omega arith)
+          ]
+        where
+          later : ((r : ℕ) → r < 2 * v → literalValue invert both falsum ws r ≡ literalValue invert both falsum us r)
+              → (i : ℕ) → i < length rs → length vs + i ≡ v → getD ws v falsum ≡ getD us v falsum
+          later same i k e =
+              let b = down i k in
+              ap (λ (w : ℕ). getD ws w falsum) (sym e)
+              ∙ row-value vs rs i k b
+              ∙ ap₂ both (same (getD rs i (0, 0) .0) (omega (arith, b .first))) (same (getD rs i (0, 0) .1) (omega (arith, b .second)))
+              ∙ sym (rows i k)
+              ∙ ap (λ (w : ℕ). getD us w falsum) e
 
 -- Good values stay good.
 module _ {A : Type 0} {Good : A → Type 0} {invert : A → A} {both : A → A → A} {falsum : A} (L : Algebra Good invert both falsum) where

@@ -1,0 +1,226 @@
+-- What a comparison that is not refused replies, in terms of the table as loaded.
+use mathlib.Core.Bool.{Bool, _||_, cond, false, true}
+use mathlib.Core.List.{List, [], _++_, _∷_, map}
+use mathlib.Core.Logic.{_≢_}
+use mathlib.Core.Path.{_∙_, _≡_, ap, ap₂, refl, subst, sym}
+use Prim.Native.Nat.{_+_, _-_, _<_, _≤_, suc, zero, ℕ}
+use native.Mathlib.Omega.{arith}
+use lib.ListN.{drop, getD, length, length-drop}
+use lib.Seq.{drop-append-le, getD-drop}
+use Rattle.aig.specs.Lookup.{firstWord, secondWord}
+use Rattle.comparer.proofs.GraphLaws.{count-vertices, left-literal, right-literal}
+use Rattle.comparer.proofs.RefusalLaws.{passed}
+use Rattle.comparer.proofs.Since.{Since, given-fits, given-steady, literalIn}
+use Rattle.comparer.specs.Compare.{Given, answerTo, answered, graphWords, problemOf, refusalOf}
+use Rattle.sweep_model.proofs.Kept.{pair-steps}
+use Rattle.sweep_model.proofs.Marked.{andAt, ands-at, ands-length, marked-chosen}
+use Rattle.sweep_model.proofs.NeverIdle.{never-idle}
+use Rattle.sweep_model.proofs.ReplyLaws.{marked-unmerged, marks-long, rows-counted, rows-passed, size-some, steps-counted, steps-full, steps-passed, two-large, two-made}
+use Rattle.sweep_model.proofs.Right.{different-right, equal-right}
+use Rattle.sweep_model.proofs.Tidy.{SamePair, crossed, straight}
+use Rattle.sweep_model.specs.Claims.{And, Names, andSteps, andsFrom, andsOf, is, isEither, marked, rowsMarked, rowsMarkedWithLast, stepsMarked, stepsMarkedWithLast, sum}
+use Rattle.sweep_model.specs.Fit.{vertexCount}
+use Rattle.sweep_model.specs.Normalise.{merged?}
+use Rattle.sweep_model.specs.State.{Problem, literalFunction}
+use Rattle.sweep_model.specs.Sweep.{different, equal, undecided}
+use Rattle.sweep_model.specs.declared.Cause.the-variants.{Idle, Rows, Size, Steps}
+use Rattle.table.specs.Table.{functionsOf, graphOf, inputsOf, madeOf, outputFunction, verticesOf}
+use Rattle.truth.proofs.Booleans.{clash}
+use Rattle.truth.proofs.Steps.{steps-symmetric}
+use Rattle.truth.specs.Parts.{size, together}
+use Rattle.truth.specs.Settings.{FirstDifference}
+use Rattle.truth.specs.Truth.{Setting, constantly}
+
+module _ {A : Type 0} (test : ℕ → Bool) where
+  -- Marks past the last thing do not count.
+  pub marked-front : (marks more : List ℕ) (xs : List A) → length xs ≤ length marks → marked test (marks ++ more) xs ≡ marked test marks xs
+  unfolding marked
+  marked-front [] [] [] h = refl
+  marked-front [] (m ∷ more) [] h = refl
+  marked-front [] more (x ∷ xs) h = absurd (omega arith)
+  marked-front (m ∷ marks) more [] h = refl
+  marked-front (m ∷ marks) more (x ∷ xs) h = rw (marked-front marks more xs (omega arith))
+
+  -- Sums over two lists are the same where they are so of each thing whose mark passes.
+  pub sum-marked : (f : A → ℕ) (marks : List ℕ) (xs ys : List A) (d : A) → length xs ≡ length ys
+      → ((i : ℕ) → i < length xs → test (getD marks i 0) ≡ true → f (getD xs i d) ≡ f (getD ys i d))
+      → sum (map f (marked test marks xs)) ≡ sum (map f (marked test marks ys))
+  unfolding marked sum
+  sum-marked f [] xs ys d l h = refl
+  sum-marked f (m ∷ marks) [] [] d l h = refl
+  sum-marked f (m ∷ marks) [] (y ∷ ys) d l h = absurd (omega arith)
+  sum-marked f (m ∷ marks) (x ∷ xs) [] d l h = absurd (omega arith)
+  sum-marked f (m ∷ marks) (x ∷ xs) (y ∷ ys) d l h =
+      go (test m) refl (sum-marked f marks xs ys d (omega arith) (λ i k e. h (suc i) (omega arith) e))
+    where
+      go : (b : Bool) → test m ≡ b → sum (map f (marked test marks xs)) ≡ sum (map f (marked test marks ys))
+          → sum (map f (cond b (x ∷ marked test marks xs) (marked test marks xs))) ≡ sum (map f (cond b (y ∷ marked test marks ys) (marked test marks ys)))
+      go true e ih = ap₂ _+_ (h 0 (omega arith) e) ih
+      go false e ih = ih
+
+  -- A sum over those marked is at most the sum over all.
+  sum-fewer : (f : A → ℕ) (marks : List ℕ) (xs : List A) → sum (map f (marked test marks xs)) ≤ sum (map f xs)
+  unfolding marked sum
+  sum-fewer f [] xs = omega arith
+  sum-fewer f (m ∷ marks) [] = omega arith
+  sum-fewer f (m ∷ marks) (x ∷ xs) = go (test m) (sum-fewer f marks xs)
+    where
+      go : (b : Bool) → sum (map f (marked test marks xs)) ≤ sum (map f xs)
+          → sum (map f (cond b (x ∷ marked test marks xs) (marked test marks xs))) ≤ f x + sum (map f xs)
+      go true ih = omega arith
+      go false ih = omega arith
+
+-- Sums of steps by two problems and their rows are the same where they are so of each AND whose mark passes.
+sum-alike : (test : ℕ → Bool) (p q : Problem) (rows other marks more : List ℕ) → p .first ≡ q .first → vertexCount p ≡ vertexCount q
+    → length marks ≡ vertexCount q → q .first ≤ vertexCount q
+    → ((v : ℕ) → q .first ≤ v → v < vertexCount q → test (getD marks v 0) ≡ true → andSteps (andAt p rows v) ≡ andSteps (andAt q other v))
+    → sum (map andSteps (marked test (drop (p .first) marks) (andsOf p rows))) ≡ sum (map andSteps (marked test (drop (q .first) (marks ++ more)) (andsOf q other)))
+unfolding andsOf
+sum-alike test p q rows other marks more f c long few same =
+    ap₂ (λ (k m : ℕ). sum (map andSteps (marked test (drop k marks) (andsFrom p rows k (m - k))))) f c
+    ∙ sum-marked test andSteps (drop (q .first) marks) (andsFrom p rows (q .first) n) (andsFrom q other (q .first) n) (andAt p rows 0)
+    (ands-length p rows n (q .first) ∙ sym (ands-length q other n (q .first)))
+    (λ i h e.
+    let l : i < n = omega (arith, ands-length p rows n (q .first)) in
+    ap andSteps (ands-at p rows n (q .first) i (andAt p rows 0) l)
+    ∙ same (q .first + i) (omega arith) (omega arith) (rw (getD-drop (q .first) marks i 0) at e)
+    ∙ sym (ap andSteps (ands-at q other n (q .first) i (andAt p rows 0) l)))
+    ∙ ap (λ (xs : List And). sum (map andSteps xs))
+    (sym
+    (ap (λ (ms : List ℕ). marked test ms (andsFrom q other (q .first) n)) (drop-append-le (q .first) marks more (omega arith))
+    ∙ marked-front test (drop (q .first) marks) more (andsFrom q other (q .first) n)
+    (omega (arith, ands-length q other n (q .first), length-drop (q .first) marks))))
+  where
+    n : ℕ
+    n = vertexCount q - q .first
+
+module _ (g : Given) (h : refusalOf g ≡ 0) {loaded : List ℕ} (s : Since loaded (g .table)) where
+  -- The problem as given, and with the table as loaded.
+  abbrev here : Problem
+  here = problemOf (g .table) (g .output) (g .limits)
+
+  abbrev there : Problem
+  there = problemOf loaded (g .output) (g .limits)
+
+  abbrev marks : List ℕ
+  marks = answerTo g .left .marks
+
+  abbrev written : List ℕ
+  written = answered g (answerTo g) .marks
+
+  count : vertexCount there ≡ verticesOf loaded
+  count = count-vertices loaded (g .output) (g .limits)
+
+  same-first : here .first ≡ there .first
+  unfolding problemOf
+  same-first = omega (arith, s .inputs)
+
+  same-count : vertexCount here ≡ vertexCount there
+  same-count = omega (arith, count-vertices (g .table) (g .output) (g .limits), count, s .inputs, s .made)
+
+  long : length marks ≡ verticesOf loaded
+  unfolding answerTo
+  long = marks-long (given-fits g h) ∙ count-vertices (g .table) (g .output) (g .limits) ∙ omega (arith, s .inputs, s .made)
+
+  -- The functions marked, by the marks slice as left.
+  pub functions-marked : (test : ℕ → Bool)
+      → marked test (answerTo g .left .marks) (problemOf (g .table) (g .output) (g .limits) .functions)
+      ≡ marked test (answered g (answerTo g) .marks) (problemOf loaded (g .output) (g .limits) .functions)
+  unfolding answered problemOf
+  functions-marked test = rw (s .functions) (sym (marked-front test marks (drop (length marks) (g .marks)) (there .functions) (omega (arith, long, count))))
+
+  same-steps : (v : ℕ) → there .first ≤ v → v < verticesOf loaded → merged? (graphWords (g .table)) v ≡ false
+      → andSteps (andAt here (graphWords (g .table)) v) ≡ andSteps (andAt there (graphWords loaded) v)
+  unfolding problemOf
+  same-steps v l m e = rw (s .functions, s .inputs) (pair-steps (s .operands v l m e))
+
+  -- Where a test passes no mark 0, the steps of the ANDs marked are those of the table as loaded.
+  pub steps-marked : (test : ℕ → Bool) → test 0 ≡ false
+      → sum (map andSteps (marked test (drop (problemOf (g .table) (g .output) (g .limits) .first) (answerTo g .left .marks)) (andsOf (problemOf (g .table) (g .output) (g .limits)) (graphWords (g .table)))))
+      ≡ sum (map andSteps (marked test (drop (problemOf loaded (g .output) (g .limits) .first) (answered g (answerTo g) .marks)) (andsOf (problemOf loaded (g .output) (g .limits)) (graphWords loaded))))
+  unfolding answered
+  steps-marked test none =
+      sum-alike test here there (graphWords (g .table)) (graphWords loaded) marks (drop (length marks) (g .marks)) same-first same-count (long ∙ sym count) first-few
+      (λ v l m e. same-steps v l (omega (arith, count)) (unmerged v l (λ z. clash e (ap test z ∙ none))))
+    where
+      first-few : there .first ≤ vertexCount there
+      first-few = unfold problemOf in omega (arith, count)
+
+      unmerged : (v : ℕ) → there .first ≤ v → getD marks v 0 ≢ 0 → merged? (graphWords (g .table)) v ≡ false
+      unmerged v l d = unfold answerTo in marked-unmerged (given-fits g h) v (omega (arith, same-first)) d
+
+  -- The rows replied are the parts of the functions marked 1.
+  pub rows-replied : length (answerTo g .left .book .store) ≡ rowsMarked (problemOf loaded (g .output) (g .limits)) (answered g (answerTo g) .marks)
+  unfolding answerTo
+  rows-replied = rows-counted (given-fits g h) ∙ ap together (functions-marked (is 1))
+
+  -- The steps replied are those of the ANDs marked 1 or 2, but after Rows and Steps.
+  pub steps-replied : ((v : ℕ) → Names (answerTo g .verdict) v → ⊥)
+      → answerTo g .left .book .steps ≡ stepsMarked (problemOf loaded (g .output) (g .limits)) (graphWords loaded) (answered g (answerTo g) .marks)
+  unfolding answerTo
+  steps-replied unnamed = steps-counted (given-fits g h) unnamed ∙ steps-marked (isEither 1 2) refl
+
+  same-output : (side : ℕ) → outputFunction (graphOf (g .table)) side (g .output) ≡ outputFunction (graphOf loaded) side (g .output)
+  same-output side = s .output side (g .output) (omega (arith, passed g h .output, s .outputs))
+
+  same-left : literalFunction here (here .left) ≡ outputFunction (graphOf loaded) 1 (g .output)
+  same-left = left-literal (g .table) (g .output) (g .limits) ∙ same-output 1
+
+  same-right : literalFunction here (here .right) ≡ outputFunction (graphOf loaded) 2 (g .output)
+  same-right = right-literal (g .table) (g .output) (g .limits) ∙ same-output 2
+
+  -- After Equal the output has one function on both sides.
+  pub equal-replied : answerTo g .verdict ≡ equal → outputFunction (graphOf loaded) 1 (g .output) ≡ outputFunction (graphOf loaded) 2 (g .output)
+  unfolding answerTo
+  equal-replied e = sym same-left ∙ equal-right (given-fits g h) e ∙ same-right
+
+  -- After Different the setting is the first on which the two differ.
+  pub different-replied : (t : Setting) → answerTo g .verdict ≡ different t
+      → FirstDifference (inputsOf loaded) (outputFunction (graphOf loaded) 1 (g .output)) (outputFunction (graphOf loaded) 2 (g .output)) t
+  unfolding answerTo
+  different-replied t e = rw (← same-left, ← same-right, ← s .inputs) (unfold problemOf in different-right (given-fits g h) t e)
+
+  -- After Size some made vertex is larger than the size limit.
+  pub size-replied : answerTo g .verdict ≡ undecided Size
+      → (i : ℕ) × (i < madeOf loaded)
+      × (g .limits .size < size (getD (functionsOf (graphOf loaded)) (1 + inputsOf loaded + i) (constantly (inputsOf loaded) false)))
+  unfolding answerTo
+  size-replied e =
+      let d = size-some (given-fits g h) e in
+      let v : ℕ = d .0 in
+      let made : 1 + inputsOf loaded ≤ v = unfold problemOf in omega (arith, two-made (given-fits g h) v (d .2), s .inputs) in
+      let place : 1 + inputsOf loaded + (v - (1 + inputsOf loaded)) ≡ v = omega arith in (
+        v - (1 + inputsOf loaded),
+        omega (arith, d .1, same-count, count),
+        rw (place, ← s .functions, ← s .inputs) (unfold problemOf in two-large (given-fits g h) v (d .2)),
+      )
+
+  -- After Rows the functions marked 1 or 3 have more parts than the row limit.
+  pub rows-short : (v : ℕ) → answerTo g .verdict ≡ undecided (Rows v)
+      → g .limits .rows < rowsMarkedWithLast (problemOf loaded (g .output) (g .limits)) (answered g (answerTo g) .marks)
+  unfolding answerTo
+  rows-short v e =
+      subst (λ (n : ℕ). g .limits .rows < n) (ap together (functions-marked (isEither 1 3))) (unfold problemOf in rows-passed (given-fits g h) v e)
+
+  module _ (v : ℕ) (e : answerTo g .verdict ≡ undecided (Steps v)) where
+    -- After Steps the steps are the limit,
+    pub steps-spent : answerTo g .left .book .steps ≡ g .limits .steps
+    unfolding answerTo problemOf
+    steps-spent = steps-full (given-fits g h) v e
+
+    -- and all ANDs of the table as loaded take more.
+    pub steps-short : g .limits .steps < sum (map andSteps (andsOf (problemOf loaded (g .output) (g .limits)) (graphWords loaded)))
+    unfolding answerTo
+    steps-short =
+        let taken : ℕ = sum (map andSteps (marked either (drop (there .first) written) (andsOf there (graphWords loaded)))) in
+        let more : g .limits .steps < taken =
+        subst (λ (n : ℕ). g .limits .steps < n) (steps-marked either refl) (unfold problemOf in steps-passed (given-fits g h) v e)
+        in omega (arith, sum-fewer either andSteps (drop (there .first) written) (andsOf there (graphWords loaded)))
+      where
+        either : ℕ → Bool
+        either m = isEither 1 2 m || is 3 m
+
+  -- Idle is never replied.
+  pub idle-unsaid : answerTo g .verdict ≢ undecided Idle
+  unfolding answerTo
+  idle-unsaid = never-idle (given-fits g h)

@@ -1,0 +1,131 @@
+-- compare: its refusals, and what it gives back and leaves.
+use mathlib.Core.Bool.{Bool, _||_, cond, not}
+use mathlib.Core.List.{List, [], _++_, _∷_, map}
+use Prim.Native.Nat.{_*_, _+_, ℕ}
+use lib.Dec.{eqb, leb, ltb}
+use lib.ListN.{drop, getD, length, take}
+use Rattle.aig.specs.Lookup.{ownWords}
+use Rattle.sweep_model.specs.Normalise.{resolve}
+use Rattle.sweep_model.specs.Reply.{replyOf}
+use Rattle.sweep_model.specs.State.{Limits, Problem}
+use Rattle.sweep_model.specs.Sweep.{Answer, Verdict, different, equal, sweep, undecided}
+use Rattle.sweep_model.specs.declared.Reply.{Reply}
+use Rattle.sweep_model.specs.declared.Reply.the-variants.{Refused}
+use Rattle.table.specs.Refusals.{Test, firstRefusal}
+use Rattle.table.specs.Table.{functionsOf, graphOf, inputsOf, madeOf, outputWords, outputsOf, promised, sideOutputs, tableTests, verticesOf}
+use Rattle.truth.specs.Truth.{Setting}
+
+-- The lengths of the working slices: four of words, and the rows.
+pub record Room : Type 0 where
+  pub pairs : ℕ
+  pub look : ℕ
+  pub diagrams : ℕ
+  pub stages : ℕ
+  pub rows : ℕ
+
+-- What a comparison is given.
+pub record Given : Type 0 where
+  pub table : List ℕ
+  pub output : ℕ
+  pub limits : Limits
+  pub room : Room
+  pub marks : List ℕ
+  pub setting : List ℕ
+
+-- What it gives back and leaves.
+pub record Left : Type 0 where
+  pub reply : Reply
+  pub table : List ℕ
+  pub marks : List ℕ
+  pub setting : List ℕ
+
+-- "outside 1 to 32,768", "outside 1 to 4,294,967,295"
+abbrev pub maxRows : ℕ
+maxRows = 32768
+
+abbrev pub maxSteps : ℕ
+maxSteps = 4294967295
+
+unfoldable pub outside? : ℕ → ℕ → Bool
+outside? most n = not (leb 1 n) || ltb most n
+
+-- "13. The size or row limit is outside 1 to 32,768, or the step limit outside 1 to 4,294,967,295."
+unfoldable pub beyond? : Limits → Bool
+beyond? l = outside? maxRows (l .size) || outside? maxRows (l .rows) || outside? maxSteps (l .steps)
+
+-- "14. A working slice is short: four slices of 2 words a vertex .., compare also 4 words a row of the limit and the marks"
+unfoldable pub shortSlice? : ℕ → ℕ → Room → ℕ → Bool
+shortSlice? vertices rows r marks =
+    ltb (r .pairs) (2 * vertices) || ltb (r .look) (2 * vertices) || ltb (r .diagrams) (2 * vertices) || ltb (r .stages) (2 * vertices)
+    || ltb (r .rows) (4 * rows) || ltb marks vertices
+
+-- "Compare uses 10 to 15 .., each in rising order.": "12. .. the output number is too high.", "15. The setting slice is shorter than
+-- the inputs."
+abbrev pub compareTests : Given → List (Test ℕ)
+compareTests g =
+    tableTests (g .table)
+    ++ (record { answer = 12; applies = leb (outputsOf (g .table)) (g .output) }
+    ∷ record { answer = 13; applies = beyond? (g .limits) }
+    ∷ record { answer = 14; applies = shortSlice? (verticesOf (g .table)) (g .limits .rows) (g .room) (length (g .marks)) }
+    ∷ record { answer = 15; applies = ltb (length (g .setting)) (inputsOf (g .table)) }
+    ∷ [])
+
+unfoldable pub refusalOf : Given → ℕ
+refusalOf g = firstRefusal 0 (compareTests g)
+
+-- The sweep's problem: the functions of the table's vertices, and the output's two literals.
+unfoldable pub problemOf : List ℕ → ℕ → Limits → Problem
+problemOf table output limits =
+    record {
+      inputs = inputsOf table;
+      functions = functionsOf (graphOf table);
+      first = 1 + inputsOf table;
+      left = getD (sideOutputs table 1) output 0;
+      right = getD (sideOutputs table 2) output 0;
+      limits = limits;
+    }
+
+-- The rows that it starts from: the first vertices' own words, and the table's rows.
+unfoldable pub graphWords : List ℕ → List ℕ
+graphWords table = ownWords 0 (1 + inputsOf table) ++ take (2 * madeOf table) (drop 3 table)
+
+unfoldable pub answerTo : Given → Answer
+answerTo g = sweep (problemOf (g .table) (g .output) (g .limits)) (graphWords (g .table))
+
+-- The front of a list replaced.
+abbrev pub overFront : List ℕ → List ℕ → List ℕ
+overFront new old = new ++ drop (length new) old
+
+-- The table with the rows that the sweep left, and each output "replaced by what [its vertex was] merged into"; its header and the
+-- words after it stay.
+unfoldable pub tableLeft : List ℕ → List ℕ → List ℕ
+tableLeft table rows =
+    overFront (take 3 table ++ (drop (2 * (1 + inputsOf table)) rows ++ map (resolve rows) (outputWords table))) table
+
+-- "one byte an input, 48 or 49"
+unfoldable pub settingBytes : Setting → List ℕ
+settingBytes s = map (λ x. cond x 49 48) s
+
+-- "A Different writes one byte an input .. to the front of the lent setting slice and no others; other replies leave it unchanged."
+unfoldable pub settingLeft : Verdict → List ℕ → List ℕ
+settingLeft equal old = old
+settingLeft (different s) old = overFront (settingBytes s) old
+settingLeft (undecided c) old = old
+
+-- What a comparison that is not refused leaves: "Marks, one byte a vertex, all written at a reply, later bytes unchanged".
+unfoldable pub answered : Given → Answer → Left
+answered g a =
+    record {
+      reply = replyOf a;
+      table = tableLeft (g .table) (a .left .rows);
+      marks = overFront (a .left .marks) (g .marks);
+      setting = settingLeft (a .verdict) (g .setting);
+    }
+
+-- "refusals leaving all of them unchanged"
+unfoldable pub turnedBack : Given → ℕ → Left
+turnedBack g n = record { reply = Refused n; table = g .table; marks = g .marks; setting = g .setting }
+
+-- A comparison: the first refusal that applies, or the sweep's reply.
+unfoldable pub compared : Given → Left
+compared g = let answer = answered g (answerTo g) in cond (eqb (refusalOf g) 0) answer (turnedBack g (refusalOf g))

@@ -1,0 +1,50 @@
+-- The bench cards, computed.
+use mathlib.Core.List.{_∷_}
+use mathlib.Core.Path.{_≡_, refl}
+use lib.ListN.{drop, replicate}
+use Rattle.aig.specs.Fold.{foldOf}
+use Rattle.aig.specs.Lookup.{firstVertex, ownWords}
+use Rattle.comparer.specs.Compare.{answerTo, answered, beyond?, compared, graphWords, outside?, problemOf, refusalOf, settingBytes, settingLeft, tableLeft, turnedBack}
+use Rattle.comparer.specs.Compare.{shortSlice? as slices?}
+use Rattle.demands.specs.Cards.{Cards, Replying, loadedTable, outputFile}
+use Rattle.loader.proofs.Cards.{loading}
+use Rattle.loader.specs.Build.{askAnd, askGate, askGates, buildFile, buildPair, emptyBuild, foldedOrNot, foundOrMade, literalsFrom}
+use Rattle.loader.specs.Cards.{andFile, orFile}
+use Rattle.loader.specs.Load.{countsDiffer?, loadResult, maxTable, readResult, shortSlice?, tableAfter, tableOf, tableWords, tallyOf}
+use Rattle.netlist.specs.Check.{checkFile, checkFrom, finish, gateStep, gatesIn, headerStep, outputStep, outputsIn, readBy, readNetlist}
+use Rattle.netlist.specs.Meaning.{andCount}
+use Rattle.netlist.specs.Records.{fieldsRecord, fileRecords, operationOf, recordOf, recordsOf, unended}
+use Rattle.sweep_model.specs.Normalise.{foldedRow, foundRow, normalise, normaliseFrom, normaliseRow, resolve, takeAt, takesFrom, wake, wakeAt}
+use Rattle.sweep_model.specs.Reply.{replyOf, replyWith}
+use Rattle.sweep_model.specs.State.{gone?, has?}
+use Rattle.sweep_model.specs.Sweep.{andThen, answerOf, begin, look, lookAt, start, sweep}
+use Rattle.table.specs.Refusals.{firstRefusal}
+use Rattle.table.specs.Table.{allBelow?, beyondLimits?, downward?, firstFunctions, functionsOf, graphOf, inputsFrom, malformed?, outOfOrder?, outputWords, pairs, rowBelow?, rowsOf, sideOutputs}
+use Rattle.table.specs.Values.{vertexValues}
+use Rattle.text.specs.Numerals.{digitsFrom, numeralOf}
+use Rattle.truth.proofs.Cards.{parts-and-steps}
+use Rattle.truth.specs.Truth.{conj, constantly, input, invert}
+
+record Tables : Type 0 where
+  and-or : loadedTable andFile orFile ≡ 2 ∷ 1 ∷ 1 ∷ 2 ∷ 4 ∷ 6 ∷ 6 ∷ drop 7 (replicate maxTable 0)
+  inverse : loadedTable (outputFile 49 50) (outputFile 49 51) ≡ 1 ∷ 0 ∷ 1 ∷ 2 ∷ 3 ∷ drop 5 (replicate maxTable 0)
+  constants : loadedTable (outputFile 48 48) (outputFile 48 49) ≡ 0 ∷ 0 ∷ 1 ∷ 0 ∷ 1 ∷ drop 5 (replicate maxTable 0)
+
+tables : Tables
+unfolding checkFile checkFrom finish gateStep gatesIn headerStep outputStep outputsIn readBy readNetlist digitsFrom numeralOf fieldsRecord fileRecords operationOf recordOf recordsOf unended foldOf firstVertex ownWords askAnd askGate askGates buildFile buildPair emptyBuild foldedOrNot foundOrMade literalsFrom countsDiffer? loadResult readResult shortSlice? tallyOf andCount firstRefusal tableAfter tableOf tableWords
+tables = record { and-or = refl; inverse = refl; constants = refl }
+
+replying : Replying
+unfolding answerTo answered beyond? compared graphWords outside? problemOf refusalOf settingBytes settingLeft slices? tableLeft turnedBack outputWords pairs rowsOf sideOutputs malformed? beyondLimits? outOfOrder? downward? allBelow? rowBelow? graphOf functionsOf firstFunctions inputsFrom firstRefusal vertexValues conj invert constantly input sweep answerOf start look lookAt andThen begin normalise normaliseFrom normaliseRow foldedRow foundRow resolve takesFrom takeAt wakeAt wake has? gone? replyOf replyWith foldOf firstVertex ownWords
+replying =
+    record {
+      and-or-reply = rw (tables .and-or) refl;
+      inverse-reply = rw (tables .inverse) refl;
+      inverse-setting = rw (tables .inverse) refl;
+      constants-reply = rw (tables .constants) refl;
+      constants-setting = rw (tables .constants) refl;
+    }
+
+-- The cards hold.
+pub cards : Cards
+cards = record { parts-and-steps = parts-and-steps; loading = loading; replying = replying }

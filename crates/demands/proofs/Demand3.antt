@@ -1,0 +1,67 @@
+-- Demand 3, proved. What holds since the table was loaded is kept by every call, and each reply follows from it.
+use mathlib.Core.List.{List}
+use mathlib.Core.Path.{_∙_, _≡_, ap, subst₂, sym}
+use Prim.Native.Nat.{_<_, ℕ}
+use native.Mathlib.Omega.{arith}
+use lib.ListN.{length}
+use Rattle.comparer.proofs.Since.{Since, since-compared, since-loaded}
+use Rattle.comparer.specs.Compare.{compared}
+use Rattle.demands.proofs.FileLaws.{function-value, table-inputs, table-outputs}
+use Rattle.demands.proofs.ReplyLaws.{reply-kept}
+use Rattle.demands.specs.Claims.{ReplyKept, sideValue}
+use Rattle.demands.specs.Demand3.{Call, Demand3, Each, Holds, Ran}
+use Rattle.loader.proofs.LoadLaws.{load-only}
+use Rattle.loader.proofs.TableLaws.{table-accepted}
+use Rattle.loader.specs.Load.{Room, loadResult, tableOf}
+use Rattle.loader.specs.Loadable.{Loadable}
+use Rattle.loader.specs.declared.Loaded.the-variants.{Accepted}
+use Rattle.loader.specs.declared.Tally.{Tally}
+use Rattle.netlist.specs.Check.{Read, read, readNetlist}
+use Rattle.netlist.specs.Netlist.{Netlist}
+use Rattle.table.proofs.FunctionLaws.{value-output}
+use Rattle.table.specs.Table.{graphOf, outputValue}
+use Rattle.truth.specs.Truth.{Setting, Truth, valueAt}
+
+-- The files of an accepted load.
+pub loaded-files : (left right : List ℕ) (room : Room) (tally : Tally) (d e : Netlist) → loadResult left right room ≡ Accepted tally
+    → readNetlist left ≡ read d → readNetlist right ≡ read e → Loadable d e
+loaded-files left right room tally d e a l r =
+    let h = load-only left right room tally a in
+    let f : h .first ≡ d = cc (h .first-read) in
+    let g : h .second ≡ e = cc (h .second-read) in
+    subst₂ Loadable f g (h .loadable)
+
+module _ {d e : Netlist} (h : Loadable d e) (old : List ℕ) where
+  -- What follows, for each call, from what holds since the table was loaded follows for every list of calls,
+  pub each-call : (P : Call → Type 0) → ((c : Call) → c .left ≡ compared (c .given) → Since (tableOf d e old) (c .given .table) → P c)
+      → {table last : List ℕ} {calls : List Call} → Since (tableOf d e old) table → Ran table calls last → Each P calls
+  each-call P one s Ran.none = Each.none
+  each-call P one s (Ran.next {c = c} t l r) =
+      let here : Since (tableOf d e old) (c .given .table) = rw t s in
+      Each.next {c = c} (one c l here) (each-call P one (rw l (since-compared (c .given) here)) r)
+
+  -- and it holds after every list.
+  since-ran : {table last : List ℕ} {calls : List Call} → Since (tableOf d e old) table → Ran table calls last → Since (tableOf d e old) last
+  since-ran s Ran.none = s
+  since-ran s (Ran.next {c = c} t l r) = since-ran (rw l (since-compared (c .given) (rw t s))) r
+
+  -- It holds before the list.
+  pub since-first : Since (tableOf d e old) (tableOf d e old)
+  since-first = since-loaded (table-accepted d e h old)
+
+  holds : {last : List ℕ} {calls : List Call} → Ran (tableOf d e old) calls last → Holds d e (tableOf d e old) calls last
+  unfolding graphOf
+  holds {last} ran =
+      let s = since-ran since-first ran in
+      record {
+        values = λ side k t l m.
+            sym (value-output (graphOf last) t (omega (arith, s .inputs, table-inputs d e h old)) side k)
+            ∙ ap (λ (f : Truth). valueAt f t) (s .output side k (omega (arith, table-outputs d e h old)))
+            ∙ function-value d e h old side k t l m;
+        replies =
+            each-call (λ c. ReplyKept d e (tableOf d e old) (c .given) (c .left) (c .left .reply)) (λ c l here. rw l (reply-kept h old (c .given) here)) since-first ran;
+      }
+
+-- Demand 3.
+pub demand3 : Demand3
+demand3 left right room tally d e old last calls a l r n ran = holds (loaded-files left right room tally d e a l r) old ran

@@ -1,0 +1,5 @@
+pub mod FileLaws
+pub mod ReplyLaws
+pub mod Demand3
+pub mod Complete
+pub mod Cards

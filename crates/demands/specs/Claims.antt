@@ -1,0 +1,104 @@
+-- What the paper claims of a comparison's reply, in terms of the files, the table as loaded, and what the comparison left.
+use mathlib.Core.Bool.{Bool, cond, false}
+use mathlib.Core.List.{List, _++_, map}
+use mathlib.Core.Logic.{_⊎_, _≢_}
+use mathlib.Core.Path.{_≡_}
+use Prim.Native.Nat.{_<_, ℕ}
+use lib.Dec.{eqb}
+use lib.ListN.{drop, getD, length}
+use Rattle.comparer.specs.Compare.{Given, Left, graphWords, problemOf, refusalOf, settingBytes, turnedBack}
+use Rattle.netlist.specs.Meaning.{fileAnds, fileValue}
+use Rattle.netlist.specs.Netlist.{Netlist}
+use Rattle.sweep_model.specs.Claims.{And, AtRest, andFunction, andSteps, is, marked, rowsMarked, stepsMarked, sum}
+use Rattle.sweep_model.specs.State.{Problem}
+use Rattle.sweep_model.specs.declared.Cause.{Cause}
+use Rattle.sweep_model.specs.declared.Cause.the-variants.{Idle, Rows, Size, Steps}
+use Rattle.sweep_model.specs.declared.Reply.{Reply}
+use Rattle.sweep_model.specs.declared.Reply.the-variants.{Different, Equal, Refused, Undecided}
+use Rattle.table.specs.Table.{graphOf, inputsFrom, outputFunction}
+use Rattle.truth.specs.Distinct.{among}
+use Rattle.truth.specs.Parts.{alike?, size, together}
+use Rattle.truth.specs.Settings.{numberOf}
+use Rattle.truth.specs.Truth.{Setting, constant?, constantly}
+
+-- "its file's value": output k of a side's file on a setting. "Inputs and outputs pair by place".
+unfoldable pub sideValue : Netlist → Netlist → ℕ → ℕ → Setting → Bool
+sideValue d e side k s = cond (eqb side 1) (fileValue d k s) (fileValue e k s)
+
+-- "AND that the gates stand for": those of both files.
+unfoldable pub gatesAnds : Netlist → Netlist → List And
+gatesAnds d e = fileAnds d ++ fileAnds e
+
+-- "Equal is said only where two outputs agree on every setting"
+abbrev pub Agree : Netlist → Netlist → ℕ → Type 0
+Agree d e k = (s : Setting) → length s ≡ d .inputs → fileValue d k s ≡ fileValue e k s
+
+-- "Different only with the first setting, in counting order, on which they disagree.", written to the front of the setting slice.
+pub record Separated (d e : Netlist) (k : ℕ) (before after : List ℕ) : Type 0 where
+  pub setting : Setting
+  pub digits : length setting ≡ d .inputs
+  pub written : after ≡ settingBytes setting ++ drop (d .inputs) before
+  pub differ : fileValue d k setting ≢ fileValue e k setting
+  pub first : (s : Setting) → length s ≡ d .inputs → numberOf s < numberOf setting → fileValue d k s ≡ fileValue e k s
+
+-- "some AND that the gates stand for has more parts than the size limit"
+pub record TooLarge (d e : Netlist) (limit : ℕ) : Type 0 where
+  pub place : ℕ
+  pub there : place < length (gatesAnds d e)
+  pub large : limit < size (andFunction (getD (gatesAnds d e) place (constantly 0 false, constantly 0 false)))
+
+-- "all inputs and those ANDs together have more parts than the row limit"
+abbrev pub TooManyParts : Netlist → Netlist → ℕ → Type 0
+TooManyParts d e limit = limit < together (inputsFrom (d .inputs) 1 (d .inputs) ++ map andFunction (gatesAnds d e))
+
+-- "those ANDs together take more product steps than the step limit"
+abbrev pub TooManySteps : Netlist → Netlist → ℕ → Type 0
+TooManySteps d e limit = limit < sum (map andSteps (gatesAnds d e))
+
+-- "some output is neither constant nor equal or inverse to a function marked 1": one of the two that were looked at.
+pub record Unseen (p : Problem) (table : List ℕ) (k : ℕ) (marks : List ℕ) : Type 0 where
+  pub side : ℕ
+  pub one-of-two : (side ≡ 1) ⊎ (side ≡ 2)
+  pub varies : constant? (outputFunction (graphOf table) side k) ≡ false
+  pub unmarked : among alike? (outputFunction (graphOf table) side k) (marked (is 1) marks (p .functions)) ≡ false
+
+-- "a vertex's function and operands are those of the table as loaded, and limits are those that the comparison in question was given":
+-- the problem of a call on the table as loaded.
+abbrev pub loadedProblem : List ℕ → Given → Problem
+loadedProblem loaded given = problemOf loaded (given .output) (given .limits)
+
+-- "as Idle only under the conditions that document 01 sets after Idle"
+pub record IdleAs (loaded : List ℕ) (given : Given) (left : Left) : Type 0 where
+  pub at-rest : AtRest (loadedProblem loaded given .first) (length (loadedProblem loaded given .functions)) (left .marks)
+      (graphWords (left .table)) (graphWords loaded)
+  pub none-large : (v : ℕ) → v < length (loadedProblem loaded given .functions) → getD (left .marks) v 0 ≢ 2
+  pub none-named : (v : ℕ) → v < length (loadedProblem loaded given .functions) → getD (left .marks) v 0 ≢ 3
+  pub unseen : Unseen (loadedProblem loaded given) loaded (given .output) (left .marks)
+
+-- "A reply's rows are the number of distinct parts of the functions it marked 1."
+abbrev pub RowsKept : List ℕ → Given → Left → ℕ → Type 0
+RowsKept loaded given left rows = rows ≡ rowsMarked (loadedProblem loaded given) (left .marks)
+
+-- "Its steps are the sum of document 01's product steps over the ANDs it marked 1 or 2"
+abbrev pub StepsKept : List ℕ → Given → Left → ℕ → Type 0
+StepsKept loaded given left steps = steps ≡ stepsMarked (loadedProblem loaded given) (graphWords loaded) (left .marks)
+
+-- What is said of each cause, and of the steps with it: "unless it said Rows or Steps; after Steps they are the limit".
+abbrev pub CauseKept : Netlist → Netlist → List ℕ → Given → Left → Cause → ℕ → Type 0
+CauseKept d e loaded given left Size steps = TooLarge d e (given .limits .size) × StepsKept loaded given left steps
+CauseKept d e loaded given left (Rows v) steps = TooManyParts d e (given .limits .rows)
+CauseKept d e loaded given left (Steps v) steps = TooManySteps d e (given .limits .steps) × (steps ≡ given .limits .steps)
+CauseKept d e loaded given left Idle steps = IdleAs loaded given left × StepsKept loaded given left steps
+
+-- What is said of each reply. A refusal is said exactly where one of 10 to 15 applies.
+abbrev pub ReplyKept : Netlist → Netlist → List ℕ → Given → Left → Reply → Type 0
+ReplyKept d e loaded given left (Refused n) = (refusalOf given ≡ n) × (n ≢ 0) × (left ≡ turnedBack given n)
+ReplyKept d e loaded given left (Equal c) =
+    (refusalOf given ≡ 0) × Agree d e (given .output) × RowsKept loaded given left (c .rows) × StepsKept loaded given left (c .steps)
+ReplyKept d e loaded given left (Different c) =
+    (refusalOf given ≡ 0)
+    × Separated d e (given .output) (given .setting) (left .setting)
+    × RowsKept loaded given left (c .rows)
+    × StepsKept loaded given left (c .steps)
+ReplyKept d e loaded given left (Undecided cause c) =
+    (refusalOf given ≡ 0) × RowsKept loaded given left (c .rows) × CauseKept d e loaded given left cause (c .steps)

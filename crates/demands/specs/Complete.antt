@@ -1,0 +1,35 @@
+-- What demand 3 comes to where the limits suffice: every comparison that is not refused decides.
+use mathlib.Core.List.{List}
+use mathlib.Core.Path.{_≡_}
+use Prim.Native.Nat.{ℕ}
+use lib.ListN.{length}
+use Rattle.comparer.specs.Compare.{refusalOf}
+use Rattle.demands.specs.Claims.{Agree, TooLarge, TooManyParts, TooManySteps}
+use Rattle.demands.specs.Demand3.{Call, Each, Ran}
+use Rattle.loader.specs.Load.{Room, loadResult, tableOf}
+use Rattle.loader.specs.declared.Loaded.the-variants.{Accepted}
+use Rattle.loader.specs.declared.Tally.{Tally}
+use Rattle.netlist.specs.Check.{read, readNetlist}
+use Rattle.netlist.specs.Netlist.{Netlist}
+use Rattle.sweep_model.specs.State.{Limits}
+use Rattle.sweep_model.specs.declared.Counts.{Counts}
+use Rattle.sweep_model.specs.declared.Reply.{Reply}
+use Rattle.sweep_model.specs.declared.Reply.the-variants.{Different, Equal}
+
+-- "demand 3's bound, on pairs whose limits suffice": none of the three bounds that an Undecided needs is passed.
+pub record Suffice (d e : Netlist) (limits : Limits) : Type 0 where
+  pub small : TooLarge d e (limits .size) → ⊥
+  pub few-parts : TooManyParts d e (limits .rows) → ⊥
+  pub few-steps : TooManySteps d e (limits .steps) → ⊥
+
+-- The reply is Equal where output k of the two files agrees on every setting, and Different where it does not.
+pub data Decided (d e : Netlist) (k : ℕ) : Reply → Type 0 where
+  is-equal : {c : Counts} → Agree d e k → Decided d e k (Equal c)
+  is-different : {c : Counts} → (Agree d e k → ⊥) → Decided d e k (Different c)
+
+abbrev pub Complete : Type 0
+Complete =
+    (left right : List ℕ) (room : Room) (tally : Tally) (d e : Netlist) (old last : List ℕ) (calls : List Call)
+    → loadResult left right room ≡ Accepted tally → readNetlist left ≡ read d → readNetlist right ≡ read e → length old ≡ room .table
+    → Ran (tableOf d e old) calls last
+    → Each (λ c. refusalOf (c .given) ≡ 0 → Suffice d e (c .given .limits) → Decided d e (c .given .output) (c .left .reply)) calls

@@ -1,0 +1,45 @@
+-- Demand 3. Every list of comparisons, refused ones included, on the table of an accepted load of two files.
+use mathlib.Core.List.{List, [], _∷_}
+use mathlib.Core.Path.{_≡_}
+use Prim.Native.Nat.{_<_, ℕ}
+use lib.ListN.{length}
+use Rattle.comparer.specs.Compare.{Given, Left, compared}
+use Rattle.demands.specs.Claims.{ReplyKept, sideValue}
+use Rattle.loader.specs.Load.{Room, loadResult, tableOf}
+use Rattle.loader.specs.declared.Loaded.the-variants.{Accepted}
+use Rattle.loader.specs.declared.Tally.{Tally}
+use Rattle.netlist.specs.Check.{read, readNetlist}
+use Rattle.netlist.specs.Netlist.{Netlist}
+use Rattle.table.specs.Table.{graphOf, outputValue}
+use Rattle.truth.specs.Truth.{Setting}
+
+-- A comparison: what it was given, and what it gave back and left.
+pub record Call : Type 0 where
+  pub given : Given
+  pub left : Left
+
+-- "The first gets the table as an accepted load of two files left it, each later one as the one before left it, and nobody else writes
+-- it.": the calls of a list, from a table to a table. Each is what the contract of compare says.
+pub data Ran : List ℕ → List Call → List ℕ → Type 0 where
+  none : {table : List ℕ} → Ran table [] table
+  next : {table : List ℕ} {c : Call} {cs : List Call} {last : List ℕ}
+      → c .given .table ≡ table → c .left ≡ compared (c .given) → Ran (c .left .table) cs last → Ran table (c ∷ cs) last
+
+-- Each call of a list.
+pub data Each (P : Call → Type 0) : List Call → Type 0 where
+  none : Each P []
+  next : {c : Call} {cs : List Call} → P c → Each P cs → Each P (c ∷ cs)
+
+-- "After the list every output of both files still has its file's value on every setting, and each reply kept demand 2 for the files'
+-- outputs", and what demand 3 says of its rows, its steps and its cause.
+pub record Holds (d e : Netlist) (loaded : List ℕ) (calls : List Call) (last : List ℕ) : Type 0 where
+  pub values : (side k : ℕ) (s : Setting) → k < length (d .outputs) → length s ≡ d .inputs
+      → outputValue (graphOf last) side k s ≡ sideValue d e side k s
+  pub replies : Each (λ c. ReplyKept d e loaded (c .given) (c .left) (c .left .reply)) calls
+
+abbrev pub Demand3 : Type 0
+Demand3 =
+    (left right : List ℕ) (room : Room) (tally : Tally) (d e : Netlist) (old last : List ℕ) (calls : List Call)
+    → loadResult left right room ≡ Accepted tally → readNetlist left ≡ read d → readNetlist right ≡ read e → length old ≡ room .table
+    → Ran (tableOf d e old) calls last
+    → Holds d e (tableOf d e old) calls last

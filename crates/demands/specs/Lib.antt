@@ -1,0 +1,4 @@
+pub mod Claims
+pub mod Demand3
+pub mod Complete
+pub mod Cards
