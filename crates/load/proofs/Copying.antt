@@ -1,0 +1,63 @@
+-- The literals of a file's first vertices, words copied, and the table, each written over a list.
+use Prim.Native.Nat.{_*_, _+_, _-_, _<_, _≤_, suc, ℕ}
+use Rattle.loader_graph.proofs.Writing.{Writing, ahead-one, writing-begins, writing-ends, writing-turn}
+use Rattle.loader.specs.Build.{literalsFrom}
+use Rattle.text.proofs.DecimalLaws.{stored-append}
+use Rattle.text.specs.Decimal.{Stored, written}
+use lib.ListN.{drop, drop-of-length-le, getD, length, length-append, length-set, set}
+use lib.Seq.{drop-cons}
+use mathlib.Core.List.{List, [], _++_, _∷_, append-assoc}
+use mathlib.Core.Path.{_≡_, ap, refl, sym, _∙_}
+use native.Mathlib.Numerals.{add-one}
+use native.Mathlib.Omega.{arith}
+
+literals-cons : (v n : ℕ) → v < n → literalsFrom v (n - v) ≡ 2 * v ∷ literalsFrom (v + 1) (n - (v + 1))
+unfolding literalsFrom
+literals-cons v n h =
+    ap (literalsFrom v) (ahead-one v n h) ∙ ap (λ (u : ℕ). 2 * v ∷ literalsFrom u (n - (v + 1))) (sym (add-one v))
+
+-- The literals of a file's first vertices.
+pub literals-begin : (old : List ℕ) (n : ℕ) → Writing old 0 (literalsFrom 0 n) old 0 (literalsFrom 0 (n - 0))
+literals-begin old n = let z : n - 0 ≡ n = omega arith in rw z (writing-begins old 0 (literalsFrom 0 n))
+
+module _ {old list : List ℕ} {n v : ℕ} (w : Writing old 0 (literalsFrom 0 n) list v (literalsFrom v (n - v))) where
+  pub literals-turn : v < n → v < length list → Writing old 0 (literalsFrom 0 n) (set list v (2 * v)) (v + 1) (literalsFrom (v + 1) (n - (v + 1)))
+  literals-turn h l = writing-turn (rw (literals-cons v n h) at w) l
+
+  pub literals-end : n ≤ v → list ≡ written old 0 (literalsFrom 0 n)
+  unfolding literalsFrom
+  literals-end h = let z : n - v ≡ 0 = omega arith in writing-ends (rw z at w)
+
+-- Words copied.
+pub copy-begins : (old : List ℕ) (at : ℕ) (words : List ℕ) → Writing old at words old (at + 0) words
+copy-begins old at words = let z : at + 0 ≡ at = omega arith in rw z (writing-begins old at words)
+
+module _ {old words list : List ℕ} {at i : ℕ} (w : Writing old at words list (at + i) (drop i words)) where
+  pub copy-turn : i < length words → at + i < length list → Writing old at words (set list (at + i) (getD words i 0)) (at + (i + 1)) (drop (i + 1) words)
+  copy-turn h l =
+      let m : at + (i + 1) ≡ at + i + 1 = omega arith in
+      rw (m, add-one i) (writing-turn (rw (drop-cons words i 0 h) at w) l)
+
+  pub copy-ends : length words ≤ i → list ≡ written old at words
+  copy-ends h = writing-ends (rw (drop-of-length-le words h) at w)
+
+-- Three words at the front.
+pub header-written : (old : List ℕ) (a b c : ℕ) → 3 ≤ length old → set (set (set old 0 a) 1 b) 2 c ≡ written old 0 (a ∷ b ∷ c ∷ [])
+header-written old a b c h =
+    writing-ends
+    (writing-turn
+    (writing-turn (writing-turn (writing-begins old 0 (a ∷ b ∷ c ∷ [])) (omega arith)) (rw length-set (omega arith)))
+    (rw (length-set, length-set) (omega arith)))
+
+-- A header, rows and the outputs of both sides, each written after the other.
+pub table-written :
+    (old : List ℕ) (a b c : ℕ) {one two three four rows left right : List ℕ} {n k m : ℕ} → 3 + length rows + length left + length right ≤ length old
+    → one ≡ written old 0 (a ∷ b ∷ c ∷ []) → Stored one 3 rows two n → Stored two n left three k → Stored three k right four m
+    → four ≡ written old 0 (a ∷ b ∷ c ∷ (rows ++ (left ++ right)))
+table-written old a b c {rows = rows} {left = left} {right = right} room e p q r =
+    let header : List ℕ = a ∷ b ∷ c ∷ [] in
+    let h : Stored old 0 header _ 3 = record { place = refl; list = e } in
+    let w = stored-append (omega arith) h p in
+    let x = stored-append (rw length-append (omega arith)) w q in
+    let y = stored-append (rw (length-append, length-append) (omega arith)) x r in
+    simp append-assoc at (y .list)

@@ -1,0 +1,140 @@
+-- What the decision says of load's result: the same refusal, or that all the tests are passed.
+use Prim.Native.Nat.{_*_, _+_, _≤_, ℕ}
+use Rattle.loader.specs.Load.{Room, countsDiffer?, loadResult, maxTable, maxVertices, pairTests, readResult, shortSlice?, tableAfter, tableOf, tallyOf}
+use Rattle.loader.specs.declared.Loaded.the-variants as loaded
+use Rattle.loader.specs.declared.Tally.{Tally}
+use Rattle.load.specs.Decision.{decision, pairDecision, readDecision}
+use Rattle.load.specs.File.{netlistOf}
+use Rattle.load.specs.Pair.{Agreed, Enough}
+use Rattle.load.specs.declared.decision.Decision.the-variants.{Go, Refused}
+use Rattle.load.specs.declared.decision.Decision.{Decision}
+use Rattle.netlist.proofs.Choices.{cond-cases}
+use Rattle.netlist.proofs.ReadLaws.{accepted}
+use Rattle.netlist.specs.Accepted.{Holds}
+use Rattle.netlist.specs.Check.{checkFile, readBy, readNetlist}
+use Rattle.netlist.specs.Limits.{maxBytes}
+use Rattle.netlist.specs.Meaning.{andCount}
+use Rattle.netlist.specs.declared.check.Checked.the-variants as checked
+use Rattle.netlist.specs.declared.check.Checked.{Checked}
+use Rattle.netlist.specs.declared.check.Summary.{Summary}
+use Rattle.table.specs.Limits.{maxAnds}
+use Rattle.table.specs.Refusals.{firstRefusal}
+use borrow.Author.Tests.{eqb-true, ltb-false, not-false}
+use lib.Dec.{eqb, ltb}
+use lib.ListN.{length}
+use mathlib.Core.Bool.{Bool, _||_, cond, false, not, true}
+use mathlib.Core.List.{List}
+use mathlib.Core.Path.{_≡_, ap, refl, subst, sym, _∙_}
+use native.Mathlib.Omega.{arith}
+
+-- Neither of two tests applies.
+neither : (a b : Bool) → (a || b) ≡ false → (a ≡ false) × (b ≡ false)
+neither true b h = absurd (let z : _≡_ {A = ℕ} 0 1 = cc in omega arith)
+neither false b h = (refl, h)
+
+same : (m n : ℕ) → not (eqb m n) ≡ false → m ≡ n
+same m n h = eqb-true m n (not-false (eqb m n) h)
+
+module _ (left right : List ℕ) (room : Room) where
+  -- Two files are loaded: they agree, the lent slices are long enough, and the result is the tally of their graph.
+  pub record Goes (s t : Summary) : Type 0 where
+    pub agreed : Agreed left right s t
+    pub enough : Enough (room .pairs) (room .look) (room .literals) (room .outputs)
+    pub table : maxTable ≤ room .table
+    pub result : loadResult left right room ≡ loaded.Accepted (tallyOf (netlistOf left s) (netlistOf right t))
+
+  abbrev pub Says : Decision → Type 0
+  Says (Refused k f n) = loadResult left right room ≡ loaded.Refused k f n
+  Says (Go s t) = Goes s t
+
+  not-short : shortSlice? room ≡ false → Enough (room .pairs) (room .look) (room .literals) (room .outputs)
+  unfolding shortSlice?
+  not-short h =
+      let outputs = neither _ (ltb (room .outputs) (2 * maxVertices)) h in
+      let literals = neither _ (ltb (room .literals) (2 * maxVertices)) (outputs .0) in
+      let look = neither (ltb (room .pairs) (2 * maxVertices)) (ltb (room .look) (2 * maxVertices)) (literals .0) in
+      record {
+        for-pairs = ltb-false _ _ (look .0);
+        for-look = ltb-false _ _ (look .1);
+        for-literals = ltb-false _ _ (literals .1);
+        for-outputs = ltb-false _ _ (outputs .1);
+      }
+
+  -- Neither file is too long.
+  module _ (short-left : ltb maxBytes (length left) ≡ false) (short-right : ltb maxBytes (length right) ≡ false) where
+    result-read : loadResult left right room ≡ readResult room (readNetlist left) (readNetlist right)
+    unfolding loadResult firstRefusal
+    result-read = rw (short-left, short-right) refl
+
+    -- Both files are accepted.
+    module _ (s t : Summary) (of-left : checkFile left ≡ checked.Accepted s) (of-right : checkFile right ≡ checked.Accepted t) where
+      left-holds : Holds left s (netlistOf left s)
+      unfolding netlistOf
+      left-holds = accepted left s of-left
+
+      right-holds : Holds right t (netlistOf right t)
+      unfolding netlistOf
+      right-holds = accepted right t of-right
+
+      result-pair :
+          loadResult left right room
+          ≡ firstRefusal (loaded.Accepted (tallyOf (netlistOf left s) (netlistOf right t))) (pairTests (netlistOf left s) (netlistOf right t) room)
+      unfolding readResult
+      result-pair = result-read ∙ rw (left-holds .reads, right-holds .reads) refl
+
+      differ : countsDiffer? (netlistOf left s) (netlistOf right t) ≡ (not (eqb (s .inputs) (t .inputs)) || not (eqb (s .outputs) (t .outputs)))
+      unfolding countsDiffer? netlistOf
+      differ = rw (← ap (λ (x : Summary). x .outputs) (left-holds .counts), ← ap (λ (x : Summary). x .outputs) (right-holds .counts)) refl
+
+      many : ltb maxAnds (andCount (netlistOf left s .gates) + andCount (netlistOf right t .gates)) ≡ ltb maxAnds (s .ands + t .ands)
+      many = rw (← ap (λ (x : Summary). x .ands) (left-holds .counts), ← ap (λ (x : Summary). x .ands) (right-holds .counts)) refl
+
+      pair-says : Says (pairDecision s t room)
+      unfolding pairDecision firstRefusal
+      pair-says =
+          cond-cases Says (not (eqb (s .inputs) (t .inputs)) || not (eqb (s .outputs) (t .outputs))) (λ h. result-pair ∙ rw (differ, h) refl) λ one.
+          cond-cases Says (ltb maxAnds (s .ands + t .ands)) (λ h. result-pair ∙ rw (differ, one, many, h) refl) λ two.
+          cond-cases Says (ltb (room .table) maxTable) (λ h. result-pair ∙ rw (differ, one, many, two, h) refl) λ three.
+          cond-cases Says (shortSlice? room) (λ h. result-pair ∙ rw (differ, one, many, two, three, h) refl) λ four.
+          record {
+            agreed =
+                record {
+                  left = left-holds;
+                  right = right-holds;
+                  inputs = same (s .inputs) (t .inputs) (neither _ (not (eqb (s .outputs) (t .outputs))) one .0);
+                  outputs = same (s .outputs) (t .outputs) (neither (not (eqb (s .inputs) (t .inputs))) _ one .1);
+                  ands = ltb-false _ _ two;
+                };
+            enough = not-short four;
+            table = ltb-false _ _ three;
+            result = result-pair ∙ rw (differ, one, many, two, three, four) refl;
+          }
+
+    read-says : (c e : Checked) → checkFile left ≡ c → checkFile right ≡ e → Says (readDecision c e room)
+    unfolding readDecision readNetlist readBy readResult
+    read-says (checked.Refused k n) e p q = result-read ∙ rw p refl
+    read-says (checked.Accepted s) (checked.Refused k n) p q = result-read ∙ rw (p, q) refl
+    read-says (checked.Accepted s) (checked.Accepted t) p q = pair-says s t p q
+
+  pub decision-says : Says (decision left right room)
+  unfolding decision firstRefusal loadResult
+  decision-says =
+      cond-cases Says (ltb maxBytes (length left)) (λ h. rw h refl) λ one.
+      cond-cases Says (ltb maxBytes (length right)) (λ h. rw (one, h) refl) λ two.
+      read-says one two (checkFile left) (checkFile right) refl refl
+
+  module _ {x : Decision} (e : x ≡ decision left right room) where
+    -- A refusal that is decided is the result.
+    pub refusal-result : {k f n : ℕ} → x ≡ Refused k f n → loadResult left right room ≡ loaded.Refused k f n
+    refusal-result h = subst Says (sym e ∙ h) decision-says
+
+    -- Files that are loaded pass all tests.
+    pub goes-on : {s t : Summary} → x ≡ Go s t → Goes s t
+    goes-on h = subst Says (sym e ∙ h) decision-says
+
+  -- The table after it.
+  pub goes-table :
+      {s t : Summary} → Goes s t → (tally : Tally) (old : List ℕ)
+      → tableAfter (loaded.Accepted tally) (readNetlist left) (readNetlist right) old ≡ tableOf (netlistOf left s) (netlistOf right t) old
+  unfolding tableAfter
+  goes-table g tally old = rw (g .agreed .left .reads, g .agreed .right .reads) refl

@@ -1,0 +1,129 @@
+-- Both files loaded, one after the other, and the table of their graph.
+use Prim.Native.Nat.{_*_, _+_, _-_, _≤_, ℕ}
+use Rattle.loader.proofs.PairLaws.{left-step, length-left, length-right, pair-good, pair-step}
+use Rattle.loader.specs.Build.{Build, buildFile, buildPair, emptyBuild}
+use Rattle.loader.specs.Load.{maxTable, maxVertices, tableOf, tableWords, tallyOf}
+use Rattle.loader.specs.declared.Tally.{Tally}
+use Rattle.load.proofs.FileLoading.{inputs-few, outputs-few}
+use Rattle.load.proofs.TableWords.{words-are}
+use Rattle.load.specs.File.{netlistOf}
+use Rattle.load.specs.Pair.{Agreed, TableRoom, pairOf, wordsOf}
+use Rattle.netlist.specs.Meaning.{andCount}
+use Rattle.netlist.specs.Netlist.{Netlist}
+use Rattle.netlist.specs.declared.check.Summary.{Summary}
+use Rattle.table.specs.Limits.{maxAnds, maxOutputs}
+use Rattle.text.specs.Decimal.{written}
+use lib.ListN.{drop, length, take}
+use mathlib.Core.List.{List, _++_}
+use mathlib.Core.Path.{_≡_, ap, refl, sym, _∙_}
+use native.Mathlib.Omega.{arith}
+
+-- Words written at the front.
+front-written : (old ws : List ℕ) → written old 0 ws ≡ ws ++ drop (length ws) old
+unfolding written
+front-written old ws = let z : 0 + length ws ≡ length ws = omega arith in rw z refl
+
+-- A file's graph after that of the first vertices, and the second file's after that.
+module _ (d e : Netlist) {n : ℕ} {b₀ b₁ : Build} (i : n ≡ d .inputs) (e₀ : b₀ ≡ emptyBuild n) (e₁ : b₁ ≡ buildFile b₀ d .build) where
+  pub pair-built : {b₂ : Build} → b₂ ≡ buildFile b₁ e .build → b₂ ≡ buildPair d e .build
+  unfolding buildPair
+  pair-built e₂ = rw (e₁, e₀, i) at e₂
+
+  pub pair-outputs :
+      (o₀ : List ℕ) {o₁ o₂ : List ℕ} → o₁ ≡ written o₀ 0 (buildFile b₀ d .outputs) → o₂ ≡ written o₁ maxOutputs (buildFile b₁ e .outputs)
+      → o₂ ≡ written (written o₀ 0 (buildPair d e .left)) maxOutputs (buildPair d e .right)
+  unfolding buildPair
+  pair-outputs o₀ p q = rw (p, e₁, e₀, i) at q
+
+  left-asked : d .inputs ≡ e .inputs → b₁ .asked ≡ andCount (d .gates)
+  unfolding emptyBuild
+  left-asked same = rw (e₁, e₀, i) (left-step d e same .asked ∙ omega arith)
+
+pub none-asked : (n : ℕ) {b : Build} → b ≡ emptyBuild n → b .asked ≡ 0
+unfolding emptyBuild
+none-asked n e = ap (λ (b : Build). b .asked) e
+
+-- The inputs of a file, and those of the netlist that it holds.
+pub netlist-inputs : (file : List ℕ) (s : Summary) → s .inputs ≡ netlistOf file s .inputs
+unfolding netlistOf
+netlist-inputs file s = refl
+
+module _ {one two : List ℕ} {s t : Summary} (a : Agreed one two s t) where
+  d : Netlist
+  d = netlistOf one s
+
+  e : Netlist
+  e = netlistOf two t
+
+  same-inputs : d .inputs ≡ e .inputs
+  unfolding d e
+  same-inputs = sym (netlist-inputs one s) ∙ a .inputs ∙ netlist-inputs two t
+
+  left-ands : s .ands ≡ andCount (d .gates)
+  unfolding d
+  left-ands = ap (λ (x : Summary). x .ands) (a .left .counts)
+
+  right-ands : t .ands ≡ andCount (e .gates)
+  unfolding e
+  right-ands = ap (λ (x : Summary). x .ands) (a .right .counts)
+
+  -- There is room for the second file's ANDs after the first's.
+  pub room-left : {b₀ b₁ : Build} → b₀ ≡ emptyBuild (s .inputs) → b₁ ≡ buildFile b₀ (netlistOf one s) .build → b₁ .asked + t .ands ≤ maxAnds
+  unfolding d e
+  room-left e₀ e₁ = omega (arith, a .ands, left-ands, left-asked d e (netlist-inputs one s) e₀ e₁ same-inputs)
+
+  -- The made vertices are no more than the ANDs that were asked for.
+  first-within : 1 + s .inputs ≤ pairOf one two s t .build .count
+  unfolding d e
+  first-within = omega (arith, pair-good d e same-inputs .first, netlist-inputs one s)
+
+  vertices-few : pairOf one two s t .build .count ≤ 1 + s .inputs + maxAnds
+  unfolding d e emptyBuild
+  vertices-few =
+      omega
+      (arith, pair-good d e same-inputs .tally, pair-step d e same-inputs .asked, netlist-inputs one s, a .ands, left-ands, right-ands)
+
+  -- The graph as it is held.
+  module _ {b : Build} (h : b ≡ pairOf one two s t .build) where
+    count-is : b .count ≡ pairOf one two s t .build .count
+    count-is = ap (λ (x : Build). x .count) h
+
+    pub count-within : 1 + s .inputs ≤ b .count
+    count-within = omega (arith, first-within, count-is)
+
+    -- The table has room for the words.
+    pub table-room :
+        {table pairs outputs : ℕ} → maxTable ≤ table → 2 * maxVertices ≤ pairs → 2 * maxVertices ≤ outputs
+        → TableRoom table pairs outputs (1 + s .inputs) (b .count) (s .outputs)
+    table-room for-table for-pairs for-outputs =
+        let few : b .count ≤ 1 + s .inputs + maxAnds = omega (arith, vertices-few, count-is) in
+        record {
+          some = omega arith;
+          from-first = count-within;
+          rows = omega (arith, inputs-few (a .left));
+          side = outputs-few (a .left);
+          sides = omega arith;
+          room = omega (arith, outputs-few (a .left));
+        }
+
+    pub tally-is :
+        _≡_ {A = Tally} (record { asked = b .asked; folded = b .folded; found = b .found; made = b .count - (1 + s .inputs) })
+        (tallyOf (netlistOf one s) (netlistOf two t))
+    unfolding tallyOf netlistOf
+    tally-is = rw h refl
+
+    pub table-is :
+        (table pairs old : List ℕ) {outputs : List ℕ} → take (2 * b .count) pairs ≡ b .words
+        → outputs ≡ written (written old 0 (pairOf one two s t .left)) maxOutputs (pairOf one two s t .right) → 2 * maxVertices ≤ length pairs
+        → 2 * maxVertices ≤ length old
+        → written table 0 (wordsOf pairs outputs (1 + s .inputs) (b .count) (s .outputs)) ≡ tableOf (netlistOf one s) (netlistOf two t) table
+    unfolding tableOf netlistOf d e
+    table-is table pairs old words outputs for-pairs for-outputs =
+        let p = pairOf one two s t in
+        let left : length (p .left) ≡ s .outputs = length-left d e ∙ sym (ap (λ (x : Summary). x .outputs) (a .left .counts)) in
+        let right : length (p .right) ≡ s .outputs = length-right d e ∙ sym (ap (λ (x : Summary). x .outputs) (a .right .counts)) ∙ sym (a .outputs) in
+        let held : take (2 * b .count) pairs ≡ p .build .words = words ∙ ap (λ (x : Build). x .words) h in
+        let ws =
+        words-are p pairs old (s .inputs) (b .count) (s .outputs) held count-is outputs left right (outputs-few (a .left)) (omega arith)
+        count-within (omega (arith, vertices-few, count-is, inputs-few (a .left))) in
+        rw ws (front-written table (tableWords (d .inputs) p))

@@ -1,0 +1,61 @@
+// Loading: two drawing files into one table.
+use crate::decision::Decision;
+use loader::Loaded;
+ghost use Rattle.loader.specs.Load.{loadResult, tableAfter};
+ghost use Rattle.load.specs.Decision.{roomOf};
+ghost use Rattle.load.specs.Pair.{Kept, working};
+ghost use Rattle.netlist.specs.Check.{readNetlist};
+ghost use lib.ListN.{length};
+ghost use mathlib.Core.Path.{_≡_};
+
+mod decision;
+mod file;
+mod layout;
+mod pair;
+
+// The words that every table fits in: a header, a row for each AND, and the outputs of both sides.
+pub const MAX_TABLE: usize = table::HEADER
+    + 2 * table::MAX_ANDS as usize
+    + 2 * table::MAX_OUTPUTS as usize;
+
+// Loads two files into the table. The working slices may hold anything; a refusal leaves every lent slice unchanged.
+pub fn load(
+    left: &[u8],
+    right: &[u8],
+    table: &mut [u32],
+    pairs: &mut [u32],
+    look: &mut [u32],
+    literals: &mut [u32],
+    outputs: &mut [u32],
+) -> Loaded
+    ensures result { λ r. ⌜ r ≡ loadResult (now (left .entry)) (now (right .entry)) (roomOf (length (now (table .entry))) (length (now (pairs .entry))) (length (now (look .entry))) (length (now (literals .entry))) (length (now (outputs .entry)))) ⌝ }
+    ensures table { λ r. ⌜ now (table .exit) ≡ tableAfter r (readNetlist (now (left .entry))) (readNetlist (now (right .entry))) (now (table .entry)) ⌝ }
+    ensures kept { λ r. ⌜ Kept r (working (now (pairs .entry)) (now (look .entry)) (now (literals .entry)) (now (outputs .entry))) (working (now (pairs .exit)) (now (look .exit)) (now (literals .exit)) (now (outputs .exit))) ⌝ }
+{
+    let decision = decision::decide(
+        left,
+        right,
+        table.len(),
+        pairs.len(),
+        look.len(),
+        literals.len(),
+        outputs.len(),
+    );
+    match decision {
+        Decision::Refused { number, file, line } => Loaded::Refused { number, file, line },
+        Decision::Go(one, two) => {
+            let tally = pair::load_pair(
+                left,
+                right,
+                one,
+                two,
+                table,
+                pairs,
+                look,
+                literals,
+                outputs,
+            );
+            Loaded::Accepted(tally)
+        }
+    }
+}

@@ -1,0 +1,82 @@
+// Both files loaded: the graph, and then the table.
+use crate::file;
+use crate::layout;
+use loader_graph::Counts;
+use loader::Tally;
+use netlist::check::Summary;
+ghost use Prim.Native.Nat.{_≤_};
+ghost use Rattle.loader_graph.specs.Slices.{buildOf};
+ghost use Rattle.loader.specs.Load.{maxTable, tableOf, tallyOf};
+ghost use Rattle.load.specs.File.{netlistOf};
+ghost use Rattle.load.specs.Pair.{Agreed, Enough, pairOf};
+ghost use Rattle.table.specs.Limits.{maxOutputs};
+ghost use Rattle.text.specs.Decimal.{written};
+ghost use lib.ListN.{length};
+ghost use mathlib.Core.Path.{_≡_};
+
+// Loads both files and writes the table.
+pub fn load_pair(
+    left: &[u8],
+    right: &[u8],
+    one: Summary,
+    two: Summary,
+    table: &mut [u32],
+    pairs: &mut [u32],
+    look: &mut [u32],
+    literals: &mut [u32],
+    outputs: &mut [u32],
+) -> Tally
+    requires files { ⌜ Agreed (now left) (now right) one two ⌝ }
+    requires room { ⌜ Enough (length (now pairs)) (length (now look)) (length (now literals)) (length (now outputs)) ⌝ }
+    requires table { ⌜ maxTable ≤ length (now table) ⌝ }
+    ensures result { λ r. ⌜ r ≡ tallyOf (netlistOf (now (left .entry)) one) (netlistOf (now (right .entry)) two) ⌝ }
+    ensures table { λ _. ⌜ now (table .exit) ≡ tableOf (netlistOf (now (left .entry)) one) (netlistOf (now (right .entry)) two) (now (table .entry)) ⌝ }
+{
+    let first = 1 + one.inputs;
+    let counts = build_pair(left, right, one, two, pairs, look, literals, outputs);
+    let vertices = counts.vertices;
+    layout::write_table(
+        table,
+        &pairs[..],
+        &outputs[..],
+        first,
+        vertices,
+        one.outputs,
+    );
+    Tally {
+        asked: counts.asked,
+        folded: counts.folded,
+        found: counts.found,
+        made: vertices - first,
+    }
+}
+
+// The graph of both files, the first loaded whole, then the second, and the literals of their outputs.
+fn build_pair(
+    left: &[u8],
+    right: &[u8],
+    one: Summary,
+    two: Summary,
+    pairs: &mut [u32],
+    look: &mut [u32],
+    literals: &mut [u32],
+    outputs: &mut [u32],
+) -> Counts
+    requires files { ⌜ Agreed (now left) (now right) one two ⌝ }
+    requires room { ⌜ Enough (length (now pairs)) (length (now look)) (length (now literals)) (length (now outputs)) ⌝ }
+    ensures result { λ r. ⌜ buildOf (now (pairs .exit)) r ≡ pairOf (now (left .entry)) (now (right .entry)) one two .build ⌝ }
+    ensures outputs { λ _. ⌜ now (outputs .exit) ≡ written (written (now (outputs .entry)) 0 (pairOf (now (left .entry)) (now (right .entry)) one two .left)) maxOutputs (pairOf (now (left .entry)) (now (right .entry)) one two .right) ⌝ }
+{
+    let counts = loader_graph::start(pairs, look, one.inputs);
+    let counts = file::load_file(left, one, pairs, look, literals, outputs, 0, counts);
+    file::load_file(
+        right,
+        two,
+        pairs,
+        look,
+        literals,
+        outputs,
+        layout::RIGHT,
+        counts,
+    )
+}
