@@ -2,12 +2,13 @@
 use mathlib.Core.Bool.{false}
 use mathlib.Core.List.{List, _++_}
 use mathlib.Core.Path.{_∙_, _≡_, ap, ap₂, subst, sym}
-use Prim.Native.Nat.{_*_, _+_, _-_, _<_, _≤_, suc, ℕ}
+use Prim.Native.Nat.{_*_, _+_, _-_, _<_, _≤_, ℕ}
 use native.Mathlib.Omega.{arith}
 use lib.ListN.{List·getD-append, drop, getD, length, length-append, length-drop, length-take, take}
-use lib.Seq.{getD-append-add, getD-drop, getD-take, length-take-le}
+use lib.Seq.{getD-append-add, getD-drop, getD-take}
 use Rattle.aig.proofs.OwnLaws.{length-own, own-holds}
 use Rattle.aig.specs.Lookup.{Holds, firstWord, ownWords, secondWord}
+use Rattle.aig.specs.Values.{literalValue}
 use Rattle.comparer.specs.Compare.{graphWords, problemOf}
 use Rattle.sweep_model.specs.Fit.{Fit, vertexCount}
 use Rattle.sweep_model.specs.State.{Limits, Problem, functionOf, literalFunction}
@@ -15,9 +16,13 @@ use Rattle.table.proofs.AcceptedLaws.{row-words-below, side-output-below}
 use Rattle.table.proofs.FunctionLaws.{function-false, function-first, function-row, functions-perfect, length-functions}
 use Rattle.table.proofs.LayoutLaws.{graph-outputs, length-rows, row-at}
 use Rattle.table.specs.Accepted.{Accepted}
-use Rattle.table.specs.Table.{functionsOf, graphOf, inputsOf, madeOf, outputFunction, outputsOf, promised, rowAt, rowsOf, sideOutputs, verticesOf}
+use Rattle.table.specs.Table.{functionsOf, graphOf, inputsOf, madeOf, outputFunction, outputsOf, promised, verticesOf}
 use Rattle.table.specs.Values.{rowValue}
 use Rattle.truth.specs.Truth.{Truth, conj, constantly, invert}
+
+-- The function of a literal of a table.
+abbrev pub literalIn : List ℕ → ℕ → Truth
+literalIn table r = literalValue invert conj (constantly (inputsOf table) false) (functionsOf (graphOf table)) r
 
 module _ (table : List ℕ) where
   -- The words of the table's rows.
@@ -61,7 +66,8 @@ module _ (table : List ℕ) where
           rw f (getD-append-add (ownWords 0 first) rowWords j 0 ∙ getD-take (2 * madeOf table) (drop 3 table) j 0 k ∙ getD-drop 3 table j 0)
 
   -- What holds of each row's vertex holds of each made vertex.
-  pub each-made : (P : ℕ → Type 0) → ((i : ℕ) → i < madeOf table → P (1 + inputsOf table + i)) → (v : ℕ) → 1 + inputsOf table ≤ v → v < verticesOf table → P v
+  pub each-made : (P : ℕ → Type 0) → ((i : ℕ) → i < madeOf table → P (1 + inputsOf table + i))
+      → (v : ℕ) → 1 + inputsOf table ≤ v → v < verticesOf table → P v
   each-made P rows v l h = let e : first + (v - first) ≡ v = omega arith in subst P e (rows (v - first) (omega arith))
 
   module _ (output : ℕ) (limits : Limits) where
@@ -73,11 +79,12 @@ module _ (table : List ℕ) where
     unfolding problemOf graphOf
     count-vertices = length-functions (graphOf table) ∙ omega (arith, length-rows table)
 
-    -- The literals looked at have the functions of the output on both sides.
+    -- The left literal looked at has the function of the output on side 1,
     pub left-literal : literalFunction (problemOf table output limits) (problemOf table output limits .left) ≡ outputFunction (graphOf table) 1 output
     unfolding problemOf outputFunction graphOf
     left-literal = rw (graph-outputs table 1)
 
+    -- and the right literal that on side 2.
     pub right-literal : literalFunction (problemOf table output limits) (problemOf table output limits .right) ≡ outputFunction (graphOf table) 2 output
     unfolding problemOf outputFunction graphOf
     right-literal = rw (graph-outputs table 2)
@@ -105,8 +112,12 @@ module _ (table : List ℕ) where
                     record {
                       long = omega (arith, length-graph (h .formed .whole));
                       own = own-row;
-                      first-below = λ v l m. each-made (λ u. firstWord (graphWords table) u < 2 * u) (λ i j. rw (made-row i j .first) (row-words-below h i j .first)) v l (omega arith);
-                      second-below = λ v l m. each-made (λ u. secondWord (graphWords table) u < 2 * u) (λ i j. rw (made-row i j .second) (row-words-below h i j .second)) v l (omega arith);
+                      first-below = λ v l m.
+                          each-made (λ u. firstWord (graphWords table) u < 2 * u) (λ i j. rw (made-row i j .first) (row-words-below h i j .first)) v l
+                          (omega arith);
+                      second-below = λ v l m.
+                          each-made (λ u. secondWord (graphWords table) u < 2 * u) (λ i j. rw (made-row i j .second) (row-words-below h i j .second)) v l
+                          (omega arith);
                     };
                 means = λ v l m. each-made Means means v l (omega arith);
               };

@@ -1,26 +1,23 @@
 -- The table that a comparison leaves: the same header, length and words after the graph, the sweep's rows, and every output as what it became.
-use mathlib.Core.Bool.{false}
 use mathlib.Core.List.{List, _++_, append-assoc, map}
 use mathlib.Core.Path.{_∙_, _≡_, ap, ap₂, subst, sym}
-use Prim.Native.Nat.{_%_, _*_, _+_, _/_, _<_, _≤_, suc, ℕ}
+use Prim.Native.Nat.{_%_, _*_, _+_, _/_, _<_, _≤_, ℕ}
 use native.Mathlib.Decide.{ℕ-discrete}
 use native.Mathlib.Omega.{arith}
 use lib.ListN.{List·getD-append, List·getD-map, drop, getD, length, length-append, length-drop, length-map, take, take-append-drop}
 use lib.Seq.{drop-at, drop-drop, ext-getD, getD-take, length-take-le, take-at}
 use Rattle.aig.proofs.OwnLaws.{length-own, own-holds}
 use Rattle.aig.specs.Lookup.{Holds, firstWord, ownWords, secondWord}
-use Rattle.aig.specs.Values.{literalValue}
-use Rattle.comparer.proofs.GraphLaws.{count-vertices, fits, length-graph, made-row}
-use Rattle.comparer.specs.Compare.{graphWords, overFront, problemOf, tableLeft}
+use Rattle.comparer.proofs.GraphLaws.{count-vertices, fits, length-graph, literalIn, made-row}
+use Rattle.comparer.specs.Compare.{graphWords, problemOf, tableLeft}
 use Rattle.sweep_model.proofs.Rows.{resolve-first, resolve-function, resolve-within}
-use Rattle.sweep_model.specs.Fit.{Fit, Sound, WellFormed, vertexCount}
+use Rattle.sweep_model.specs.Fit.{Sound}
 use Rattle.sweep_model.specs.Normalise.{resolve}
-use Rattle.sweep_model.specs.State.{Limits, literalFunction}
+use Rattle.sweep_model.specs.State.{Limits}
 use Rattle.table.proofs.FunctionLaws.{function-first, functions-unique, length-functions}
 use Rattle.table.proofs.LayoutLaws.{graph-outputs, length-output-words, length-rows, row-at, side-output-word, side-start-bound}
 use Rattle.table.specs.Accepted.{Accepted, RowBelow}
-use Rattle.table.specs.Table.{functionsOf, graphOf, inputsOf, madeOf, outputFunction, outputWords, outputsOf, promised, rowsOf, sideOutputs, sideStart, verticesOf}
-use Rattle.truth.specs.Truth.{conj, constantly, invert}
+use Rattle.table.specs.Table.{functionsOf, graphOf, inputsOf, madeOf, outputFunction, outputWords, outputsOf, promised, rowsOf, sideStart, verticesOf}
 
 -- Two lists of words that agree vertex by vertex agree word by word.
 words-agree : (rows other : List ℕ) (n : ℕ) → ((v : ℕ) → v < n → Holds other v (firstWord rows v) (secondWord rows v)) → (i : ℕ) → i < 2 * n
@@ -113,8 +110,7 @@ module _ (table : List ℕ) (whole : promised (madeOf table) (outputsOf table) �
 
 -- The function of an output is that of its word.
 output-literal : (table : List ℕ) (side k : ℕ) → k < outputsOf table
-    → outputFunction (graphOf table) side k
-    ≡ literalValue invert conj (constantly (inputsOf table) false) (functionsOf (graphOf table)) (getD (outputWords table) (sideStart table side + k) 0)
+    → outputFunction (graphOf table) side k ≡ literalIn table (getD (outputWords table) (sideStart table side + k) 0)
 unfolding outputFunction graphOf
 output-literal table side k h = rw (graph-outputs table side, side-output-word table side k h)
 
@@ -138,17 +134,19 @@ module _ {table : List ℕ} {output : ℕ} {limits : Limits} {rows : List ℕ} (
   two-each : length rows ≡ 2 * verticesOf table
   two-each = swept .long ∙ length-graph table whole
 
-  -- The header stays.
+  -- The table left has the same inputs,
   pub inputs-left : inputsOf (tableLeft table rows) ≡ inputsOf table
   inputs-left = inputs-kept table whole rows two-each
 
+  -- as many made vertices
   pub made-left : madeOf (tableLeft table rows) ≡ madeOf table
   made-left = made-kept table whole rows two-each
 
+  -- and as many outputs.
   pub outputs-left : outputsOf (tableLeft table rows) ≡ outputsOf table
   outputs-left = outputs-kept table whole rows two-each
 
-  -- They are the rows of the table left.
+  -- Its rows are those that the sweep left.
   pub graph-left : graphWords (tableLeft table rows) ≡ rows
   unfolding problemOf
   graph-left = rows-left table whole rows two-each (swept .sound .downward .own)
@@ -194,7 +192,13 @@ module _ {table : List ℕ} {output : ℕ} {limits : Limits} {rows : List ℕ} (
         rows = λ i h. rw inputs-left (below-left i (omega (arith, length-rows left, made-left)));
         references = λ j h.
             let c = count-vertices table output limits in
-            let l : j < 2 * outputsOf table = omega (arith, length-map (outputWords table) (resolve rows), ap length (outputs-became table whole rows two-each), length-output-words table whole) in
+            let l : j < 2 * outputsOf table =
+            omega (
+              arith,
+              length-map (outputWords table) (resolve rows),
+              ap length (outputs-became table whole rows two-each),
+              length-output-words table whole,
+            ) in
             rw (became j, inputs-left, made-left)
             (resolve-within (swept .sound .downward) (getD (outputWords table) j 0) (verticesOf table) (omega arith) (reference-below j l));
       }

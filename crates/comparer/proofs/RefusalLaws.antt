@@ -99,7 +99,8 @@ module _ (g : Given) where
   unfolding refusalOf
   passed h =
       let t = first-passed (tableTests (g .table)) own h in
-      let a = none-applies 12 (leb (outputsOf (g .table)) (g .output)) (limit-test ∷ slice-test ∷ setting-test ∷ []) (omega arith) (sym (table-passed (g .table) own t) ∙ h) in
+      let a = none-applies 12 (leb (outputsOf (g .table)) (g .output)) (limit-test ∷ slice-test ∷ setting-test ∷ []) (omega arith)
+      (sym (table-passed (g .table) own t) ∙ h) in
       let b = none-applies 13 (beyond? (g .limits)) (slice-test ∷ setting-test ∷ []) (omega arith) (a .1) in
       let c = none-applies 14 (shortSlice? (verticesOf (g .table)) (g .limits .rows) (g .room) (length (g .marks))) (setting-test ∷ []) (omega arith) (b .1) in
       let d = none-applies 15 (ltb (length (g .setting)) (inputsOf (g .table))) [] (omega arith) (c .1) in

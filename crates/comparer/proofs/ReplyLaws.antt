@@ -3,22 +3,20 @@ use mathlib.Core.Bool.{Bool, _||_, cond, false, true}
 use mathlib.Core.List.{List, [], _++_, _∷_, map}
 use mathlib.Core.Logic.{_≢_}
 use mathlib.Core.Path.{_∙_, _≡_, ap, ap₂, refl, subst, sym}
-use Prim.Native.Nat.{_+_, _-_, _<_, _≤_, suc, zero, ℕ}
+use Prim.Native.Nat.{_+_, _-_, _<_, _≤_, suc, ℕ}
 use native.Mathlib.Omega.{arith}
 use lib.ListN.{drop, getD, length, length-drop}
 use lib.Seq.{drop-append-le, getD-drop}
-use Rattle.aig.specs.Lookup.{firstWord, secondWord}
 use Rattle.comparer.proofs.GraphLaws.{count-vertices, left-literal, right-literal}
 use Rattle.comparer.proofs.RefusalLaws.{passed}
-use Rattle.comparer.proofs.Since.{Since, given-fits, given-steady, literalIn}
+use Rattle.comparer.proofs.Since.{Since, given-fits, problemBy}
 use Rattle.comparer.specs.Compare.{Given, answerTo, answered, graphWords, problemOf, refusalOf}
 use Rattle.sweep_model.proofs.Kept.{pair-steps}
-use Rattle.sweep_model.proofs.Marked.{andAt, ands-at, ands-length, marked-chosen}
+use Rattle.sweep_model.proofs.Marked.{andAt, ands-at, ands-length}
 use Rattle.sweep_model.proofs.NeverIdle.{never-idle}
 use Rattle.sweep_model.proofs.ReplyLaws.{marked-unmerged, marks-long, rows-counted, rows-passed, size-some, steps-counted, steps-full, steps-passed, two-large, two-made}
 use Rattle.sweep_model.proofs.Right.{different-right, equal-right}
-use Rattle.sweep_model.proofs.Tidy.{SamePair, crossed, straight}
-use Rattle.sweep_model.specs.Claims.{And, Names, andSteps, andsFrom, andsOf, is, isEither, marked, rowsMarked, rowsMarkedWithLast, stepsMarked, stepsMarkedWithLast, sum}
+use Rattle.sweep_model.specs.Claims.{And, Names, andSteps, andsFrom, andsOf, is, isEither, marked, rowsMarked, rowsMarkedWithLast, stepsMarked, sum}
 use Rattle.sweep_model.specs.Fit.{vertexCount}
 use Rattle.sweep_model.specs.Normalise.{merged?}
 use Rattle.sweep_model.specs.State.{Problem, literalFunction}
@@ -26,14 +24,13 @@ use Rattle.sweep_model.specs.Sweep.{different, equal, undecided}
 use Rattle.sweep_model.specs.declared.Cause.the-variants.{Idle, Rows, Size, Steps}
 use Rattle.table.specs.Table.{functionsOf, graphOf, inputsOf, madeOf, outputFunction, verticesOf}
 use Rattle.truth.proofs.Booleans.{clash}
-use Rattle.truth.proofs.Steps.{steps-symmetric}
 use Rattle.truth.specs.Parts.{size, together}
 use Rattle.truth.specs.Settings.{FirstDifference}
 use Rattle.truth.specs.Truth.{Setting, constantly}
 
 module _ {A : Type 0} (test : ℕ → Bool) where
   -- Marks past the last thing do not count.
-  pub marked-front : (marks more : List ℕ) (xs : List A) → length xs ≤ length marks → marked test (marks ++ more) xs ≡ marked test marks xs
+  marked-front : (marks more : List ℕ) (xs : List A) → length xs ≤ length marks → marked test (marks ++ more) xs ≡ marked test marks xs
   unfolding marked
   marked-front [] [] [] h = refl
   marked-front [] (m ∷ more) [] h = refl
@@ -42,7 +39,7 @@ module _ {A : Type 0} (test : ℕ → Bool) where
   marked-front (m ∷ marks) more (x ∷ xs) h = rw (marked-front marks more xs (omega arith))
 
   -- Sums over two lists are the same where they are so of each thing whose mark passes.
-  pub sum-marked : (f : A → ℕ) (marks : List ℕ) (xs ys : List A) (d : A) → length xs ≡ length ys
+  sum-marked : (f : A → ℕ) (marks : List ℕ) (xs ys : List A) (d : A) → length xs ≡ length ys
       → ((i : ℕ) → i < length xs → test (getD marks i 0) ≡ true → f (getD xs i d) ≡ f (getD ys i d))
       → sum (map f (marked test marks xs)) ≡ sum (map f (marked test marks ys))
   unfolding marked sum
@@ -70,11 +67,15 @@ module _ {A : Type 0} (test : ℕ → Bool) where
       go true ih = omega arith
       go false ih = omega arith
 
+-- The steps of the ANDs whose mark passes a test.
+abbrev stepsOf : (ℕ → Bool) → Problem → List ℕ → List ℕ → ℕ
+stepsOf test p rows marks = sum (map andSteps (marked test (drop (p .first) marks) (andsOf p rows)))
+
 -- Sums of steps by two problems and their rows are the same where they are so of each AND whose mark passes.
 sum-alike : (test : ℕ → Bool) (p q : Problem) (rows other marks more : List ℕ) → p .first ≡ q .first → vertexCount p ≡ vertexCount q
     → length marks ≡ vertexCount q → q .first ≤ vertexCount q
     → ((v : ℕ) → q .first ≤ v → v < vertexCount q → test (getD marks v 0) ≡ true → andSteps (andAt p rows v) ≡ andSteps (andAt q other v))
-    → sum (map andSteps (marked test (drop (p .first) marks) (andsOf p rows))) ≡ sum (map andSteps (marked test (drop (q .first) (marks ++ more)) (andsOf q other)))
+    → stepsOf test p rows marks ≡ stepsOf test q other (marks ++ more)
 unfolding andsOf
 sum-alike test p q rows other marks more f c long few same =
     ap₂ (λ (k m : ℕ). sum (map andSteps (marked test (drop k marks) (andsFrom p rows k (m - k))))) f c
@@ -97,10 +98,10 @@ sum-alike test p q rows other marks more f c long few same =
 module _ (g : Given) (h : refusalOf g ≡ 0) {loaded : List ℕ} (s : Since loaded (g .table)) where
   -- The problem as given, and with the table as loaded.
   abbrev here : Problem
-  here = problemOf (g .table) (g .output) (g .limits)
+  here = problemBy (g .table) g
 
   abbrev there : Problem
-  there = problemOf loaded (g .output) (g .limits)
+  there = problemBy loaded g
 
   abbrev marks : List ℕ
   marks = answerTo g .left .marks
@@ -123,9 +124,9 @@ module _ (g : Given) (h : refusalOf g ≡ 0) {loaded : List ℕ} (s : Since load
   long = marks-long (given-fits g h) ∙ count-vertices (g .table) (g .output) (g .limits) ∙ omega (arith, s .inputs, s .made)
 
   -- The functions marked, by the marks slice as left.
-  pub functions-marked : (test : ℕ → Bool)
-      → marked test (answerTo g .left .marks) (problemOf (g .table) (g .output) (g .limits) .functions)
-      ≡ marked test (answered g (answerTo g) .marks) (problemOf loaded (g .output) (g .limits) .functions)
+  functions-marked : (test : ℕ → Bool)
+      → marked test (answerTo g .left .marks) (problemBy (g .table) g .functions)
+      ≡ marked test (answered g (answerTo g) .marks) (problemBy loaded g .functions)
   unfolding answered problemOf
   functions-marked test = rw (s .functions) (sym (marked-front test marks (drop (length marks) (g .marks)) (there .functions) (omega (arith, long, count))))
 
@@ -135,9 +136,9 @@ module _ (g : Given) (h : refusalOf g ≡ 0) {loaded : List ℕ} (s : Since load
   same-steps v l m e = rw (s .functions, s .inputs) (pair-steps (s .operands v l m e))
 
   -- Where a test passes no mark 0, the steps of the ANDs marked are those of the table as loaded.
-  pub steps-marked : (test : ℕ → Bool) → test 0 ≡ false
-      → sum (map andSteps (marked test (drop (problemOf (g .table) (g .output) (g .limits) .first) (answerTo g .left .marks)) (andsOf (problemOf (g .table) (g .output) (g .limits)) (graphWords (g .table)))))
-      ≡ sum (map andSteps (marked test (drop (problemOf loaded (g .output) (g .limits) .first) (answered g (answerTo g) .marks)) (andsOf (problemOf loaded (g .output) (g .limits)) (graphWords loaded))))
+  steps-marked : (test : ℕ → Bool) → test 0 ≡ false
+      → stepsOf test (problemBy (g .table) g) (graphWords (g .table)) (answerTo g .left .marks)
+      ≡ stepsOf test (problemBy loaded g) (graphWords loaded) (answered g (answerTo g) .marks)
   unfolding answered
   steps-marked test none =
       sum-alike test here there (graphWords (g .table)) (graphWords loaded) marks (drop (length marks) (g .marks)) same-first same-count (long ∙ sym count) first-few
@@ -150,13 +151,13 @@ module _ (g : Given) (h : refusalOf g ≡ 0) {loaded : List ℕ} (s : Since load
       unmerged v l d = unfold answerTo in marked-unmerged (given-fits g h) v (omega (arith, same-first)) d
 
   -- The rows replied are the parts of the functions marked 1.
-  pub rows-replied : length (answerTo g .left .book .store) ≡ rowsMarked (problemOf loaded (g .output) (g .limits)) (answered g (answerTo g) .marks)
+  pub rows-replied : length (answerTo g .left .book .store) ≡ rowsMarked (problemBy loaded g) (answered g (answerTo g) .marks)
   unfolding answerTo
   rows-replied = rows-counted (given-fits g h) ∙ ap together (functions-marked (is 1))
 
   -- The steps replied are those of the ANDs marked 1 or 2, but after Rows and Steps.
   pub steps-replied : ((v : ℕ) → Names (answerTo g .verdict) v → ⊥)
-      → answerTo g .left .book .steps ≡ stepsMarked (problemOf loaded (g .output) (g .limits)) (graphWords loaded) (answered g (answerTo g) .marks)
+      → answerTo g .left .book .steps ≡ stepsMarked (problemBy loaded g) (graphWords loaded) (answered g (answerTo g) .marks)
   unfolding answerTo
   steps-replied unnamed = steps-counted (given-fits g h) unnamed ∙ steps-marked (isEither 1 2) refl
 
@@ -197,7 +198,7 @@ module _ (g : Given) (h : refusalOf g ≡ 0) {loaded : List ℕ} (s : Since load
 
   -- After Rows the functions marked 1 or 3 have more parts than the row limit.
   pub rows-short : (v : ℕ) → answerTo g .verdict ≡ undecided (Rows v)
-      → g .limits .rows < rowsMarkedWithLast (problemOf loaded (g .output) (g .limits)) (answered g (answerTo g) .marks)
+      → g .limits .rows < rowsMarkedWithLast (problemBy loaded g) (answered g (answerTo g) .marks)
   unfolding answerTo
   rows-short v e =
       subst (λ (n : ℕ). g .limits .rows < n) (ap together (functions-marked (isEither 1 3))) (unfold problemOf in rows-passed (given-fits g h) v e)
@@ -209,7 +210,7 @@ module _ (g : Given) (h : refusalOf g ≡ 0) {loaded : List ℕ} (s : Since load
     steps-spent = steps-full (given-fits g h) v e
 
     -- and all ANDs of the table as loaded take more.
-    pub steps-short : g .limits .steps < sum (map andSteps (andsOf (problemOf loaded (g .output) (g .limits)) (graphWords loaded)))
+    pub steps-short : g .limits .steps < sum (map andSteps (andsOf (problemBy loaded g) (graphWords loaded)))
     unfolding answerTo
     steps-short =
         let taken : ℕ = sum (map andSteps (marked either (drop (there .first) written) (andsOf there (graphWords loaded)))) in

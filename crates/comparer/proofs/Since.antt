@@ -1,33 +1,25 @@
 -- What holds of a table since it was loaded, whatever comparisons it went through: every vertex and every output has its function, and a
 -- row that is not (x, x) has its operands' functions. It is kept because the sweep keeps them and a refusal changes nothing.
-use mathlib.Core.Bool.{false, true}
+use mathlib.Core.Bool.{false}
 use mathlib.Core.List.{List}
-use mathlib.Core.Logic.{_≢_}
-use mathlib.Core.Path.{_∙_, _≡_, ap, refl, sym}
+use mathlib.Core.Path.{_∙_, _≡_, refl}
 use Prim.Native.Nat.{_+_, _<_, _≤_, ℕ}
 use native.Mathlib.Decide.{ℕ-discrete}
 use native.Mathlib.Omega.{arith}
-use lib.ListN.{length}
 use Rattle.aig.specs.Lookup.{firstWord, secondWord}
-use Rattle.aig.specs.Values.{literalValue}
-use Rattle.comparer.proofs.GraphLaws.{count-vertices, fits}
+use Rattle.comparer.proofs.GraphLaws.{count-vertices, fits, literalIn}
 use Rattle.comparer.proofs.LeftLaws.{Swept, accepted-left, functions-left, graph-left, inputs-left, made-left, output-left, outputs-left}
-use Rattle.comparer.proofs.RefusalLaws.{Passed, compared-answered, compared-refused, passed}
-use Rattle.comparer.specs.Compare.{Given, Left, answerTo, answered, compared, graphWords, problemOf, refusalOf, tableLeft, turnedBack}
+use Rattle.comparer.proofs.RefusalLaws.{compared-answered, compared-refused, passed}
+use Rattle.comparer.specs.Compare.{Given, answerTo, answered, compared, graphWords, problemOf, refusalOf, turnedBack}
 use Rattle.sweep_model.proofs.Kept.{operands-kept, sweep-steady}
 use Rattle.sweep_model.proofs.Steady.{Steady}
 use Rattle.sweep_model.proofs.Tidy.{SamePair, crossed, straight}
 use Rattle.sweep_model.specs.Fit.{Fit, vertexCount}
 use Rattle.sweep_model.specs.Normalise.{merged?}
-use Rattle.sweep_model.specs.State.{Problem, State}
+use Rattle.sweep_model.specs.State.{Problem}
 use Rattle.table.specs.Accepted.{Accepted}
 use Rattle.table.specs.Table.{functionsOf, graphOf, inputsOf, madeOf, outputFunction, outputsOf, verticesOf}
 use Rattle.truth.proofs.Booleans.{clash, not-true}
-use Rattle.truth.specs.Truth.{Truth, conj, constantly, invert}
-
--- The function of a literal of a table.
-abbrev pub literalIn : List ℕ → ℕ → Truth
-literalIn table r = literalValue invert conj (constantly (inputsOf table) false) (functionsOf (graphOf table)) r
 
 -- Vertex v has in both lists of rows operands of the same functions, up to order.
 abbrev pub SameOperands : List ℕ → List ℕ → List ℕ → ℕ → Type 0
@@ -64,18 +56,18 @@ pair-then (straight x y) (crossed z w) = crossed (x ∙ z) (y ∙ w)
 pair-then (crossed x y) (straight z w) = crossed (x ∙ w) (y ∙ z)
 pair-then (crossed x y) (crossed z w) = straight (x ∙ w) (y ∙ z)
 
+-- The problem of a comparison, by a table.
+abbrev pub problemBy : List ℕ → Given → Problem
+problemBy table g = problemOf table (g .output) (g .limits)
+
 -- A comparison that is not refused.
 module _ (g : Given) (h : refusalOf g ≡ 0) where
-  -- The sweep's problem and the rows that it starts from.
-  abbrev pub problemGiven : Problem
-  problemGiven = problemOf (g .table) (g .output) (g .limits)
-
-  -- They are what a sweep is started on.
-  pub given-fits : Fit (problemOf (g .table) (g .output) (g .limits)) (graphWords (g .table))
+  -- Its problem and rows are what a sweep is started on.
+  pub given-fits : Fit (problemBy (g .table) g) (graphWords (g .table))
   given-fits = fits (g .table) (g .output) (g .limits) (passed g h .table) (passed g h .output)
 
   -- The state that the sweep leaves.
-  pub given-steady : Steady (problemOf (g .table) (g .output) (g .limits)) (graphWords (g .table)) (answerTo g .left)
+  pub given-steady : Steady (problemBy (g .table) g) (graphWords (g .table)) (answerTo g .left)
   unfolding answerTo
   given-steady = sweep-steady given-fits
 
@@ -100,8 +92,8 @@ module _ (g : Given) (h : refusalOf g ≡ 0) where
         functions = functions-left given-swept ∙ s .functions;
         output = λ side k l. output-left given-swept side k (rw (s .outputs) l) ∙ s .output side k l;
         operands = λ v l m e.
-            let made : problemGiven .first ≤ v = omega (arith, s .inputs) in
-            let within : v < vertexCount problemGiven = omega (arith, s .inputs, s .made, count-vertices (g .table) (g .output) (g .limits)) in
+            let made : problemOf (g .table) (g .output) (g .limits) .first ≤ v = omega (arith, s .inputs) in
+            let within : v < vertexCount (problemBy (g .table) g) = omega (arith, s .inputs, s .made, count-vertices (g .table) (g .output) (g .limits)) in
             let unmerged : merged? (answerTo g .left .rows) v ≡ false = rw given-rows at e in
             rw given-rows
             (pair-then (rw (s .functions, s .inputs) at (operands-kept given-fits given-steady v made within unmerged))

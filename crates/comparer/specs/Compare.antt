@@ -12,7 +12,7 @@ use Rattle.sweep_model.specs.Sweep.{Answer, Verdict, different, equal, sweep, u
 use Rattle.sweep_model.specs.declared.Reply.{Reply}
 use Rattle.sweep_model.specs.declared.Reply.the-variants.{Refused}
 use Rattle.table.specs.Refusals.{Test, firstRefusal}
-use Rattle.table.specs.Table.{functionsOf, graphOf, inputsOf, madeOf, outputWords, outputsOf, promised, sideOutputs, tableTests, verticesOf}
+use Rattle.table.specs.Table.{functionsOf, graphOf, inputsOf, madeOf, outputWords, outputsOf, sideOutputs, tableTests, verticesOf}
 use Rattle.truth.specs.Truth.{Setting}
 
 -- The lengths of the working slices: four of words, and the rows.

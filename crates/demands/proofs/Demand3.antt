@@ -1,14 +1,13 @@
 -- Demand 3, proved. What holds since the table was loaded is kept by every call, and each reply follows from it.
 use mathlib.Core.List.{List}
 use mathlib.Core.Path.{_∙_, _≡_, ap, subst₂, sym}
-use Prim.Native.Nat.{_<_, ℕ}
+use Prim.Native.Nat.{ℕ}
 use native.Mathlib.Omega.{arith}
-use lib.ListN.{length}
 use Rattle.comparer.proofs.Since.{Since, since-compared, since-loaded}
 use Rattle.comparer.specs.Compare.{compared}
 use Rattle.demands.proofs.FileLaws.{function-value, table-inputs, table-outputs}
 use Rattle.demands.proofs.ReplyLaws.{reply-kept}
-use Rattle.demands.specs.Claims.{ReplyKept, sideValue}
+use Rattle.demands.specs.Claims.{ReplyKept}
 use Rattle.demands.specs.Demand3.{Call, Demand3, Each, Holds, Ran}
 use Rattle.loader.proofs.LoadLaws.{load-only}
 use Rattle.loader.proofs.TableLaws.{table-accepted}
@@ -16,11 +15,11 @@ use Rattle.loader.specs.Load.{Room, loadResult, tableOf}
 use Rattle.loader.specs.Loadable.{Loadable}
 use Rattle.loader.specs.declared.Loaded.the-variants.{Accepted}
 use Rattle.loader.specs.declared.Tally.{Tally}
-use Rattle.netlist.specs.Check.{Read, read, readNetlist}
+use Rattle.netlist.specs.Check.{read, readNetlist}
 use Rattle.netlist.specs.Netlist.{Netlist}
 use Rattle.table.proofs.FunctionLaws.{value-output}
-use Rattle.table.specs.Table.{graphOf, outputValue}
-use Rattle.truth.specs.Truth.{Setting, Truth, valueAt}
+use Rattle.table.specs.Table.{graphOf}
+use Rattle.truth.specs.Truth.{Truth, valueAt}
 
 -- The files of an accepted load.
 pub loaded-files : (left right : List ℕ) (room : Room) (tally : Tally) (d e : Netlist) → loadResult left right room ≡ Accepted tally

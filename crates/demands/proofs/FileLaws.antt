@@ -8,7 +8,6 @@ use native.Mathlib.Omega.{arith}
 use lib.ListN.{List·getD-map, getD, length, length-map}
 use lib.Seq.{ext-getD}
 use borrow.Author.Tests.{eq-eqb, ne-eqb}
-use Rattle.aig.specs.Lookup.{firstWord, secondWord}
 use Rattle.comparer.proofs.GraphLaws.{count-vertices, made-row}
 use Rattle.comparer.specs.Compare.{graphWords, problemOf}
 use Rattle.demands.specs.Claims.{TooLarge, TooManyParts, TooManySteps, gatesAnds, sideValue}
@@ -16,7 +15,6 @@ use Rattle.loader.proofs.AndLaws.{made-function, made-parts, rows-from, rows-to
 use Rattle.loader.proofs.FromLaws.{place-within, placeIn}
 use Rattle.loader.proofs.PairLaws.{length-left}
 use Rattle.loader.proofs.ValueLaws.{left-value, right-value}
-use Rattle.loader.specs.Build.{buildPair}
 use Rattle.loader.specs.From.{total}
 use Rattle.loader.specs.Functions.{rowOperands}
 use Rattle.loader.specs.Load.{tableOf, tableWords}
@@ -62,7 +60,8 @@ rows-ands : (table : List ℕ) (output : ℕ) (limits : Limits) → andsOf (prob
 unfolding andsOf rowOperands problemOf graphOf
 rows-ands table output limits =
     ext-getD (operands (0, 0)) (andsFrom (problemOf table output limits) (graphWords table) (1 + inputsOf table) made) (map operands (rowsOf table))
-    (ands-length (problemOf table output limits) (graphWords table) made (1 + inputsOf table) ∙ omega (arith, count, length-map (rowsOf table) operands, length-rows table))
+    (ands-length (problemOf table output limits) (graphWords table) made (1 + inputsOf table)
+    ∙ omega (arith, count, length-map (rowsOf table) operands, length-rows table))
     (λ i l.
     let m : i < made = omega (arith, ands-length (problemOf table output limits) (graphWords table) made (1 + inputsOf table)) in
     let w = made-row table i (omega (arith, count)) in
@@ -118,7 +117,7 @@ module _ (d e : Netlist) (h : Loadable d e) (old : List ℕ) where
       let rows = rows-from d e (h .inputs) (h .outputs) old in
       record {
         place = placeIn rows i;
-        there = place-within rows i (omega (arith, length-map (rowsOf loaded) (operandsOf invert conj (constantly (inputsOf loaded) false) (functionsOf (graphOf loaded))), length-rows loaded));
+        there = place-within rows i (simp (length-map, length-rows) l);
         large = rw (← made-function d e (h .inputs) (h .outputs) old i (omega (arith, length-rows loaded)) (constantly 0 false, constantly 0 false)) m;
       }
 

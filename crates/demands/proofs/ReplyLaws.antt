@@ -1,7 +1,5 @@
 -- Each reply kept what demand 3 says of it.
-use mathlib.Core.Bool.{Bool}
 use mathlib.Core.List.{List, _++_}
-use mathlib.Core.Logic.{_≢_}
 use mathlib.Core.Path.{_∙_, _≡_, ap, refl, subst, sym}
 use Prim.Native.Nat.{_<_, ℕ}
 use native.Mathlib.Decide.{ℕ-discrete}
@@ -15,9 +13,8 @@ use Rattle.demands.proofs.FileLaws.{function-value, table-inputs, table
 use Rattle.demands.specs.Claims.{Agree, ReplyKept, Separated, StepsKept, sideValue}
 use Rattle.loader.specs.Load.{tableOf}
 use Rattle.loader.specs.Loadable.{Loadable}
-use Rattle.netlist.specs.Meaning.{fileValue}
 use Rattle.netlist.specs.Netlist.{Netlist}
-use Rattle.sweep_model.specs.Claims.{Names, by-rows, by-steps, isEither}
+use Rattle.sweep_model.specs.Claims.{Names, isEither}
 use Rattle.sweep_model.specs.Reply.{countsOf, replyOf, replyWith}
 use Rattle.sweep_model.specs.Sweep.{Verdict, different, equal, undecided}
 use Rattle.sweep_model.specs.declared.Cause.the-variants.{Idle, Rows, Size, Steps}
@@ -64,7 +61,8 @@ module _ {d e : Netlist} (h : Loadable d e) (old : List ℕ) (g : Given) (s : Si
           first = λ u m n. sym (value 1 u m) ∙ f .first u (m ∙ sym (table-inputs d e h old)) n ∙ value 2 u m;
         }
 
-    steps-kept : (x : Verdict) → answerTo g .verdict ≡ x → ((v : ℕ) → Names x v → ⊥) → StepsKept loaded g (answered g (answerTo g)) (answerTo g .left .book .steps)
+    steps-kept : (x : Verdict) → answerTo g .verdict ≡ x → ((v : ℕ) → Names x v → ⊥)
+        → StepsKept loaded g (answered g (answerTo g)) (answerTo g .left .book .steps)
     steps-kept x k unnamed = steps-replied g r s (λ v n. unnamed v (subst (λ (y : Verdict). Names y v) k n))
 
     -- Whatever the sweep says.
@@ -91,5 +89,5 @@ module _ {d e : Netlist} (h : Loadable d e) (old : List ℕ) (g : Given) (s : Si
   reply-kept =
       elim (ℕ-discrete (refusalOf g) 0) [
         | yes r ↦ rw (compared-answered g r) (unfold answered replyOf in answered-kept r (answerTo g .verdict) refl)
-        | no r ↦ rw (compared-refused g r) (unfold turnedBack in (refl, r, refl))
+        | no r ↦ rw (compared-refused g r) (unfold turnedBack in (refl, r, refl, refl, refl))
       ]

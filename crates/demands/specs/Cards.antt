@@ -4,9 +4,10 @@ use mathlib.Core.List.{List, [], _∷_}
 use mathlib.Core.Path.{_≡_}
 use Prim.Native.Nat.{_*_, ℕ}
 use lib.ListN.{replicate}
-use Rattle.comparer.specs.Compare.{Given, compared}
+use Rattle.comparer.specs.Compare.{Given, Left, compared}
 use Rattle.loader.specs.Cards.{Loading, andFile, orFile, tableLeft}
 use Rattle.loader.specs.Load.{maxTable, maxVertices}
+use Rattle.sweep_model.specs.State.{Limits}
 use Rattle.sweep_model.specs.declared.Reply.the-variants.{Different, Equal}
 use Rattle.table.specs.Table.{inputsOf, verticesOf}
 use Rattle.truth.specs.Cards.{PartsAndSteps}
@@ -19,26 +20,35 @@ outputFile n r = 78 ∷ 9 ∷ 49 ∷ 9 ∷ n ∷ 9 ∷ 48 ∷ 9 ∷ 49 ∷ 10 �
 abbrev pub loadedTable : List ℕ → List ℕ → List ℕ
 loadedTable left right = tableLeft left right (replicate maxTable 0)
 
--- "limits 4,096 unless said": output 0 of a table, with slices that are just long enough.
-abbrev pub firstOutput : List ℕ → Given
-firstOutput table =
+-- A comparison of a table's output with slices that are long enough.
+abbrev pub comparisonOf : ℕ → Limits → List ℕ → Given
+comparisonOf output limits table =
     record {
       table = table;
-      output = 0;
-      limits = record { size = 4096; rows = 4096; steps = 4096 };
-      room = record { pairs = 2 * maxVertices; look = 2 * maxVertices; diagrams = 2 * maxVertices; stages = 2 * maxVertices; rows = 4 * 4096 };
+      output = output;
+      limits = limits;
+      room =
+          record { pairs = 2 * maxVertices; look = 2 * maxVertices; diagrams = 2 * maxVertices; stages = 2 * maxVertices; rows = 4 * limits .rows };
       marks = replicate (verticesOf table) 0;
       setting = replicate (inputsOf table) 0;
     }
 
+-- "limits 4,096 unless said"
+abbrev pub usual : Limits
+usual = record { size = 4096; rows = 4096; steps = 4096 }
+
+-- What a comparison of a pair's first output gives back and leaves.
+abbrev pub firstCompared : List ℕ → List ℕ → Left
+firstCompared left right = compared (comparisonOf 0 usual (loadedTable left right))
+
 -- "`and 2 4` output 6 against `or 3 5` output 7: .. Equal, rows 0, steps 0." "output 2 against 3, one input: Different, setting 0, rows 0."
 -- "no inputs, 0 against 1: Different, empty setting."
 pub record Replying : Type 0 where
-  pub and-or-reply : compared (firstOutput (loadedTable andFile orFile)) .reply ≡ Equal (record { rows = 0; steps = 0 })
-  pub inverse-reply : compared (firstOutput (loadedTable (outputFile 49 50) (outputFile 49 51))) .reply ≡ Different (record { rows = 0; steps = 0 })
-  pub inverse-setting : compared (firstOutput (loadedTable (outputFile 49 50) (outputFile 49 51))) .setting ≡ 48 ∷ []
-  pub constants-reply : compared (firstOutput (loadedTable (outputFile 48 48) (outputFile 48 49))) .reply ≡ Different (record { rows = 0; steps = 0 })
-  pub constants-setting : compared (firstOutput (loadedTable (outputFile 48 48) (outputFile 48 49))) .setting ≡ []
+  pub and-or-reply : firstCompared andFile orFile .reply ≡ Equal (record { rows = 0; steps = 0 })
+  pub inverse-reply : firstCompared (outputFile 49 50) (outputFile 49 51) .reply ≡ Different (record { rows = 0; steps = 0 })
+  pub inverse-setting : firstCompared (outputFile 49 50) (outputFile 49 51) .setting ≡ 48 ∷ []
+  pub constants-reply : firstCompared (outputFile 48 48) (outputFile 48 49) .reply ≡ Different (record { rows = 0; steps = 0 })
+  pub constants-setting : firstCompared (outputFile 48 48) (outputFile 48 49) .setting ≡ []
 
 -- All of them.
 pub record Cards : Type 0 where

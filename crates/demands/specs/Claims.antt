@@ -1,25 +1,24 @@
 -- What the paper claims of a comparison's reply, in terms of the files, the table as loaded, and what the comparison left.
 use mathlib.Core.Bool.{Bool, cond, false}
 use mathlib.Core.List.{List, _++_, map}
-use mathlib.Core.Logic.{_⊎_, _≢_}
+use mathlib.Core.Logic.{_≢_}
 use mathlib.Core.Path.{_≡_}
 use Prim.Native.Nat.{_<_, ℕ}
 use lib.Dec.{eqb}
 use lib.ListN.{drop, getD, length}
-use Rattle.comparer.specs.Compare.{Given, Left, graphWords, problemOf, refusalOf, settingBytes, turnedBack}
+use Rattle.comparer.specs.Compare.{Given, Left, graphWords, problemOf, refusalOf, settingBytes}
 use Rattle.netlist.specs.Meaning.{fileAnds, fileValue}
 use Rattle.netlist.specs.Netlist.{Netlist}
-use Rattle.sweep_model.specs.Claims.{And, AtRest, andFunction, andSteps, is, marked, rowsMarked, stepsMarked, sum}
+use Rattle.sweep_model.specs.Claims.{AfterIdle, And, AtRest, andFunction, andSteps, rowsMarked, stepsMarked, sum}
 use Rattle.sweep_model.specs.State.{Problem}
 use Rattle.sweep_model.specs.declared.Cause.{Cause}
 use Rattle.sweep_model.specs.declared.Cause.the-variants.{Idle, Rows, Size, Steps}
 use Rattle.sweep_model.specs.declared.Reply.{Reply}
 use Rattle.sweep_model.specs.declared.Reply.the-variants.{Different, Equal, Refused, Undecided}
-use Rattle.table.specs.Table.{graphOf, inputsFrom, outputFunction}
-use Rattle.truth.specs.Distinct.{among}
-use Rattle.truth.specs.Parts.{alike?, size, together}
+use Rattle.table.specs.Table.{inputsFrom}
+use Rattle.truth.specs.Parts.{size, together}
 use Rattle.truth.specs.Settings.{numberOf}
-use Rattle.truth.specs.Truth.{Setting, constant?, constantly}
+use Rattle.truth.specs.Truth.{Setting, constantly}
 
 -- "its file's value": output k of a side's file on a setting. "Inputs and outputs pair by place".
 unfoldable pub sideValue : Netlist → Netlist → ℕ → ℕ → Setting → Bool
@@ -55,13 +54,6 @@ TooManyParts d e limit = limit < together (inputsFrom (d .inputs) 1 (d .inputs) 
 abbrev pub TooManySteps : Netlist → Netlist → ℕ → Type 0
 TooManySteps d e limit = limit < sum (map andSteps (gatesAnds d e))
 
--- "some output is neither constant nor equal or inverse to a function marked 1": one of the two that were looked at.
-pub record Unseen (p : Problem) (table : List ℕ) (k : ℕ) (marks : List ℕ) : Type 0 where
-  pub side : ℕ
-  pub one-of-two : (side ≡ 1) ⊎ (side ≡ 2)
-  pub varies : constant? (outputFunction (graphOf table) side k) ≡ false
-  pub unmarked : among alike? (outputFunction (graphOf table) side k) (marked (is 1) marks (p .functions)) ≡ false
-
 -- "a vertex's function and operands are those of the table as loaded, and limits are those that the comparison in question was given":
 -- the problem of a call on the table as loaded.
 abbrev pub loadedProblem : List ℕ → Given → Problem
@@ -71,9 +63,7 @@ loadedProblem loaded given = problemOf loaded (given .output) (given .limits)
 pub record IdleAs (loaded : List ℕ) (given : Given) (left : Left) : Type 0 where
   pub at-rest : AtRest (loadedProblem loaded given .first) (length (loadedProblem loaded given .functions)) (left .marks)
       (graphWords (left .table)) (graphWords loaded)
-  pub none-large : (v : ℕ) → v < length (loadedProblem loaded given .functions) → getD (left .marks) v 0 ≢ 2
-  pub none-named : (v : ℕ) → v < length (loadedProblem loaded given .functions) → getD (left .marks) v 0 ≢ 3
-  pub unseen : Unseen (loadedProblem loaded given) loaded (given .output) (left .marks)
+  pub after-idle : AfterIdle (loadedProblem loaded given) (left .marks)
 
 -- "A reply's rows are the number of distinct parts of the functions it marked 1."
 abbrev pub RowsKept : List ℕ → Given → Left → ℕ → Type 0
@@ -92,7 +82,8 @@ CauseKept d e loaded given left Idle steps = IdleAs loaded given left × StepsKe
 
 -- What is said of each reply. A refusal is said exactly where one of 10 to 15 applies.
 abbrev pub ReplyKept : Netlist → Netlist → List ℕ → Given → Left → Reply → Type 0
-ReplyKept d e loaded given left (Refused n) = (refusalOf given ≡ n) × (n ≢ 0) × (left ≡ turnedBack given n)
+ReplyKept d e loaded given left (Refused n) =
+    (refusalOf given ≡ n) × (n ≢ 0) × (left .table ≡ given .table) × (left .marks ≡ given .marks) × (left .setting ≡ given .setting)
 ReplyKept d e loaded given left (Equal c) =
     (refusalOf given ≡ 0) × Agree d e (given .output) × RowsKept loaded given left (c .rows) × StepsKept loaded given left (c .steps)
 ReplyKept d e loaded given left (Different c) =

@@ -2,3 +2,4 @@ pub mod Claims
 pub mod Demand3
 pub mod Complete
 pub mod Cards
+pub mod Example

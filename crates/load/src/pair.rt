@@ -1,8 +1,8 @@
 // Both files loaded: the graph, and then the table.
 use crate::file;
 use crate::layout;
-use loader_graph::Counts;
 use loader::Tally;
+use loader_graph::Counts;
 use netlist::check::Summary;
 ghost use Prim.Native.Nat.{_≤_};
 ghost use Rattle.loader_graph.specs.Slices.{buildOf};

@@ -120,6 +120,6 @@ pub record Unmatched (p : Problem) (marks : List ℕ) (r : ℕ) : Type 0 where
 
 -- "After Idle, .. no mark is 2 or 3, and some output is ..": one of the two looked at.
 pub record AfterIdle (p : Problem) (marks : List ℕ) : Type 0 where
-  pub none-large : (v : ℕ) → getD marks v 0 ≢ 2
-  pub none-named : (v : ℕ) → getD marks v 0 ≢ 3
+  pub none-large : (v : ℕ) → v < length (p .functions) → getD marks v 0 ≢ 2
+  pub none-named : (v : ℕ) → v < length (p .functions) → getD marks v 0 ≢ 3
   pub output : Unmatched p marks (p .left) ⊎ Unmatched p marks (p .right)
