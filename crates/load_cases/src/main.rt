@@ -1,0 +1,442 @@
+// load on the bench's pairs, on the largest pair, and on every refusal. A line for each: what the pair is, and what came; for small pairs also the table's words.
+use libc::STDOUT_FILENO;
+use loader::Loaded;
+ghost use Prim.Native.Nat.{_≤_};
+ghost use lib.ListN.{length};
+
+// The words of the longest table, and those of each working slice.
+const TABLE: usize = 12419;
+
+const SLICE: usize = 12418;
+
+// The most bytes of a file, and one more.
+const BYTES: usize = 65537;
+
+fn print(name: &[u8], number: u32) {
+    io::write_all(STDOUT_FILENO, name);
+    io::print_decimal(STDOUT_FILENO, number as u64);
+}
+
+fn show(
+    name: &[u8],
+    left: &[u8],
+    right: &[u8],
+    table: &mut [u32],
+    pairs: &mut [u32],
+    look: &mut [u32],
+    literals: &mut [u32],
+    outputs: &mut [u32],
+) {
+    io::write_all(STDOUT_FILENO, name);
+    let loaded = load::load(left, right, table, pairs, look, literals, outputs);
+    match loaded {
+        Loaded::Accepted(tally) => {
+            print(b": asked ", tally.asked);
+            print(b" folded ", tally.folded);
+            print(b" found ", tally.found);
+            print(b" made ", tally.made);
+        }
+        Loaded::Refused { number, file, line } => {
+            print(b": refused ", number);
+            print(b" file ", file);
+            print(b" line ", line);
+        }
+    }
+    io::write_all(STDOUT_FILENO, b"\n");
+}
+
+// A small pair, and the first words of its table.
+fn show_words(name: &[u8], left: &[u8], right: &[u8], count: usize)
+    requires { ⌜ count ≤ 12419 ⌝ }
+{
+    let mut table = [7u32; TABLE];
+    let mut pairs = [7u32; SLICE];
+    let mut look = [7u32; SLICE];
+    let mut literals = [7u32; SLICE];
+    let mut outputs = [7u32; SLICE];
+    show(
+        name,
+        left,
+        right,
+        &mut table,
+        &mut pairs,
+        &mut look,
+        &mut literals,
+        &mut outputs,
+    );
+    print_words(&table, count);
+}
+
+fn print_words(words: &[u32], count: usize)
+    requires { ⌜ count ≤ length (now words) ⌝ }
+{
+    io::write_all(STDOUT_FILENO, b"  table");
+    let mut i = 0;
+    while i < count {
+        print(b" ", words[i]);
+        i += 1;
+    }
+    io::write_all(STDOUT_FILENO, b"\n");
+}
+
+fn bench() {
+    show_words(
+        b"xor 2 2 against false",
+        b"N\t1\t1\t1\t1\nG\txor\t2\t2\nO\t4\n",
+        b"N\t1\t1\t0\t1\nO\t0\n",
+        6,
+    );
+    show_words(
+        b"and 2 4 against or 3 5 inverted",
+        b"N\t1\t2\t1\t1\nG\tand\t2\t4\nO\t6\n",
+        b"N\t1\t2\t1\t1\nG\tor\t3\t5\nO\t7\n",
+        8,
+    );
+    show_words(
+        b"and 2 4 against or 2 4",
+        b"N\t1\t2\t1\t1\nG\tand\t2\t4\nO\t6\n",
+        b"N\t1\t2\t1\t1\nG\tor\t2\t4\nO\t6\n",
+        10,
+    );
+    show_words(
+        b"xor 2 4 against or, and, and",
+        b"N\t1\t2\t1\t1\nG\txor\t2\t4\nO\t6\n",
+        b"N\t1\t2\t3\t1\nG\tor\t2\t4\nG\tand\t2\t4\nG\tand\t6\t9\nO\t10\n",
+        18,
+    );
+    show_words(
+        b"no inputs, false against true",
+        b"N\t1\t0\t0\t1\nO\t0\n",
+        b"N\t1\t0\t0\t1\nO\t1\n",
+        6,
+    );
+}
+
+fn refusals() {
+    show_words(
+        b"both files damaged",
+        b"N\t1\t2\t1\t1\nG\tand\t2\t6\nO\t6\n",
+        b"N\t2\t2\t1\t1\nG\tand\t2\t4\nO\t6\n",
+        3,
+    );
+    show_words(
+        b"the second file damaged",
+        b"N\t1\t2\t1\t1\nG\tand\t2\t4\nO\t6\n",
+        b"N\t1\t2\t1\t1\nG\tand\t2\t4\nO\t8\n",
+        3,
+    );
+    show_words(
+        b"another number of inputs",
+        b"N\t1\t2\t1\t1\nG\tand\t2\t4\nO\t6\n",
+        b"N\t1\t3\t1\t1\nG\tand\t2\t4\nO\t6\n",
+        3,
+    );
+    show_words(
+        b"another number of outputs",
+        b"N\t1\t2\t1\t1\nG\tand\t2\t4\nO\t6\n",
+        b"N\t1\t2\t1\t2\nG\tand\t2\t4\nO\t6\nO\t7\n",
+        3,
+    );
+}
+
+// Writes a byte where there is room, and gives back the next place.
+fn put(file: &mut [u8], at: usize, byte: u8) -> usize {
+    if at < file.len() {
+        file[at] = byte;
+        return at + 1;
+    }
+    at
+}
+
+fn put_all(file: &mut [u8], from: usize, bytes: &[u8]) -> usize {
+    let mut at = from;
+    let mut i = 0;
+    while i < bytes.len() {
+        at = put(file, at, bytes[i]);
+        i += 1;
+    }
+    at
+}
+
+// Writes the digit of a number at a unit, none where the number is below it.
+fn put_digit(file: &mut [u8], at: usize, n: u32, unit: u32) -> usize
+    requires { ⌜ 1 ≤ unit ⌝ }
+{
+    if n < unit {
+        return at;
+    }
+    put(file, at, b'0' + (n / unit % 10) as u8)
+}
+
+// Writes a number from 1 to 9,999.
+fn put_number(file: &mut [u8], from: usize, n: u32) -> usize {
+    let at = put_digit(file, from, n, 1000);
+    let at = put_digit(file, at, n, 100);
+    let at = put_digit(file, at, n, 10);
+    put_digit(file, at, n, 1)
+}
+
+// Writes an AND of an input and the vertex before this one, which is inverted by adding 1.
+fn put_gate(file: &mut [u8], from: usize, i: u32, inverted: u32) -> usize
+    requires { ⌜ i ≤ 4096 ⌝ }
+    requires { ⌜ inverted ≤ 1 ⌝ }
+{
+    let at = put_all(file, from, b"G\tand\t");
+    let at = put_number(file, at, 2 * (1 + i % 64));
+    let at = put(file, at, b'\t');
+    let at = put_number(file, at, 2 * (64 + i) + inverted);
+    put(file, at, b'\n')
+}
+
+fn put_gates(file: &mut [u8], from: usize, gates: u32, inverted: u32) -> usize
+    requires { ⌜ gates ≤ 4096 ⌝ }
+    requires { ⌜ inverted ≤ 1 ⌝ }
+{
+    let mut at = from;
+    let mut i: u32 = 0;
+    while i < gates {
+        at = put_gate(file, at, i, inverted);
+        i += 1;
+    }
+    at
+}
+
+// Writes 64 outputs, the last vertices.
+fn put_outputs(file: &mut [u8], from: usize, gates: u32) -> usize
+    requires { ⌜ gates ≤ 4096 ⌝ }
+{
+    let mut at = from;
+    let mut i: u32 = 0;
+    while i < 64 {
+        at = put_all(file, at, b"O\t");
+        at = put_number(file, at, 2 * (1 + gates + i));
+        at = put(file, at, b'\n');
+        i += 1;
+    }
+    at
+}
+
+// Writes a file of 64 inputs, a chain of ANDs and 64 outputs, and gives back its length.
+fn put_file(file: &mut [u8], gates: u32, inverted: u32) -> usize
+    requires { ⌜ gates ≤ 4096 ⌝ }
+    requires { ⌜ inverted ≤ 1 ⌝ }
+{
+    let at = put_all(file, 0, b"N\t1\t64\t");
+    let at = put_number(file, at, gates);
+    let at = put_all(file, at, b"\t64\n");
+    let at = put_gates(file, at, gates, inverted);
+    put_outputs(file, at, gates)
+}
+
+// The first bytes of a file, or all.
+fn front(file: &[u8], length: usize) -> &[u8] {
+    if length < file.len() {
+        return &file[..length];
+    }
+    file
+}
+
+// A pair with the fronts of slices lent.
+fn show_fronts(
+    name: &[u8],
+    left: &[u8],
+    right: &[u8],
+    words: &mut [u32],
+    table: usize,
+    one: &mut [u32],
+    pairs: usize,
+    two: &mut [u32],
+    look: usize,
+    three: &mut [u32],
+    literals: usize,
+    four: &mut [u32],
+    outputs: usize,
+)
+    requires { ⌜ (table ≤ length (now words)) × (pairs ≤ length (now one)) × (look ≤ length (now two)) × (literals ≤ length (now three)) × (outputs ≤ length (now four)) ⌝ }
+{
+    show(
+        name,
+        left,
+        right,
+        &mut words[..table],
+        &mut one[..pairs],
+        &mut two[..look],
+        &mut three[..literals],
+        &mut four[..outputs],
+    );
+}
+
+// A pair with lent slices of some lengths.
+fn show_lent(
+    name: &[u8],
+    left: &[u8],
+    right: &[u8],
+    table: usize,
+    pairs: usize,
+    look: usize,
+    literals: usize,
+    outputs: usize,
+)
+    requires { ⌜ (table ≤ 12419) × (pairs ≤ 12418) × (look ≤ 12418) × (literals ≤ 12418) × (outputs ≤ 12418) ⌝ }
+{
+    let mut words = [7u32; TABLE];
+    let mut one = [7u32; SLICE];
+    let mut two = [7u32; SLICE];
+    let mut three = [7u32; SLICE];
+    let mut four = [7u32; SLICE];
+    show_fronts(
+        name,
+        left,
+        right,
+        &mut words,
+        table,
+        &mut one,
+        pairs,
+        &mut two,
+        look,
+        &mut three,
+        literals,
+        &mut four,
+        outputs,
+    );
+    print_words(&words, 3);
+}
+
+fn lengths(left: &[u8], right: &[u8], more: &[u8]) {
+    show_lent(
+        b"the largest pair",
+        left,
+        right,
+        TABLE,
+        SLICE,
+        SLICE,
+        SLICE,
+        SLICE,
+    );
+    show_lent(
+        b"one file twice",
+        left,
+        left,
+        TABLE,
+        SLICE,
+        SLICE,
+        SLICE,
+        SLICE,
+    );
+    show_lent(
+        b"one AND more",
+        more,
+        right,
+        TABLE,
+        SLICE,
+        SLICE,
+        SLICE,
+        SLICE,
+    );
+    show_lent(
+        b"one AND more, no table",
+        more,
+        right,
+        0,
+        SLICE,
+        SLICE,
+        SLICE,
+        SLICE,
+    );
+    show_lent(
+        b"a table one word short",
+        left,
+        right,
+        TABLE - 1,
+        SLICE,
+        SLICE,
+        SLICE,
+        SLICE,
+    );
+    show_lent(
+        b"all slices short",
+        left,
+        right,
+        TABLE - 1,
+        SLICE - 1,
+        SLICE - 1,
+        SLICE - 1,
+        SLICE - 1,
+    );
+}
+
+fn slices(left: &[u8], right: &[u8]) {
+    show_lent(
+        b"pairs one word short",
+        left,
+        right,
+        TABLE,
+        SLICE - 1,
+        SLICE,
+        SLICE,
+        SLICE,
+    );
+    show_lent(
+        b"the look-up one word short",
+        left,
+        right,
+        TABLE,
+        SLICE,
+        SLICE - 1,
+        SLICE,
+        SLICE,
+    );
+    show_lent(
+        b"literals one word short",
+        left,
+        right,
+        TABLE,
+        SLICE,
+        SLICE,
+        SLICE - 1,
+        SLICE,
+    );
+    show_lent(
+        b"outputs one word short",
+        left,
+        right,
+        TABLE,
+        SLICE,
+        SLICE,
+        SLICE,
+        SLICE - 1,
+    );
+}
+
+fn large() {
+    let mut left = [0u8; BYTES];
+    let mut right = [0u8; BYTES];
+    let mut more = [0u8; BYTES];
+    let left_end = put_file(&mut left, 3072, 0);
+    let right_end = put_file(&mut right, 3072, 1);
+    let more_end = put_file(&mut more, 3073, 0);
+    lengths(
+        front(&left, left_end),
+        front(&right, right_end),
+        front(&more, more_end),
+    );
+    slices(front(&left, left_end), front(&right, right_end));
+}
+
+fn show_bytes(name: &[u8], left: &[u8], right: &[u8]) {
+    show_lent(name, left, right, TABLE, SLICE, SLICE, SLICE, SLICE);
+}
+
+fn long() {
+    let file = [b'\n'; BYTES];
+    show_bytes(b"a file of 65536 bytes", &file[..65536], b"");
+    show_bytes(b"a file of 65537 bytes", &file, b"");
+    show_bytes(b"a damaged file and one of 65537 bytes", b"N", &file);
+}
+
+fn main() {
+    bench();
+    refusals();
+    large();
+    long();
+}
