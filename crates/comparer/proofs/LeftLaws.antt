@@ -37,30 +37,31 @@ module _ (table : List ℕ) (whole : promised (madeOf table) (outputsOf table) �
   abbrev references : List ℕ
   references = map (resolve rows) (outputWords table)
 
-  length-made : length made ≡ 2 * madeOf table
+  pub length-made : length (drop (2 * (1 + inputsOf table)) rows) ≡ 2 * madeOf table
   length-made = simp length-drop (omega arith)
 
   length-references : length references ≡ 2 * outputsOf table
   length-references = length-map (outputWords table) (resolve rows) ∙ length-output-words table whole
 
-  length-header : length (take 3 table) ≡ 3
+  pub length-header : length (take 3 table) ≡ 3
   length-header = length-take-le 3 table (omega arith)
 
   length-written : length (take 3 table ++ (made ++ references)) ≡ promised (madeOf table) (outputsOf table)
   length-written = simp length-append (omega (arith, length-header, length-made, length-references))
 
   -- The words, part by part.
-  words : tableLeft table rows ≡ take 3 table ++ (made ++ (references ++ drop (promised (madeOf table) (outputsOf table)) table))
+  pub left-words : tableLeft table rows
+      ≡ take 3 table ++ (drop (2 * (1 + inputsOf table)) rows ++ (map (resolve rows) (outputWords table) ++ drop (promised (madeOf table) (outputsOf table)) table))
   unfolding tableLeft
-  words = rw length-written (simp append-assoc)
+  left-words = rw length-written (simp append-assoc)
 
   -- It is as long as it was.
   pub length-left : length (tableLeft table rows) ≡ length table
-  length-left = rw words (simp (length-append, length-drop) (omega (arith, length-header, length-made, length-references)))
+  length-left = rw left-words (simp (length-append, length-drop) (omega (arith, length-header, length-made, length-references)))
 
   -- The header stays.
   header-kept : (i : ℕ) → i < 3 → getD (tableLeft table rows) i 0 ≡ getD table i 0
-  header-kept i h = rw words (List·getD-append (take 3 table) _ 0 i (omega (arith, length-header)) ∙ getD-take 3 table i 0 h)
+  header-kept i h = rw left-words (List·getD-append (take 3 table) _ 0 i (omega (arith, length-header)) ∙ getD-take 3 table i 0 h)
 
   inputs-kept : inputsOf (tableLeft table rows) ≡ inputsOf table
   inputs-kept = header-kept 0 (omega arith)
@@ -72,7 +73,7 @@ module _ (table : List ℕ) (whole : promised (madeOf table) (outputsOf table) �
   outputs-kept = header-kept 2 (omega arith)
 
   after-header : drop 3 (tableLeft table rows) ≡ made ++ (references ++ drop (promised (madeOf table) (outputsOf table)) table)
-  after-header = rw words (drop-at (take 3 table) _ 3 length-header)
+  after-header = rw left-words (drop-at (take 3 table) _ 3 length-header)
 
   after-rows : drop (3 + 2 * madeOf table) (tableLeft table rows) ≡ references ++ drop (promised (madeOf table) (outputsOf table)) table
   after-rows = sym (drop-drop (2 * madeOf table) 3 (tableLeft table rows)) ∙ rw after-header (drop-at made _ (2 * madeOf table) length-made)

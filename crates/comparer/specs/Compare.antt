@@ -59,16 +59,20 @@ shortSlice? vertices rows r marks =
     ltb (r .pairs) (2 * vertices) || ltb (r .look) (2 * vertices) || ltb (r .diagrams) (2 * vertices) || ltb (r .stages) (2 * vertices)
     || ltb (r .rows) (4 * rows) || ltb marks vertices
 
--- "Compare uses 10 to 15 .., each in rising order.": "12. .. the output number is too high.", "15. The setting slice is shorter than
--- the inputs."
+-- "12. .. the output number is too high.", "15. The setting slice is shorter than the inputs.": the tests after those of the table, by
+-- the lengths of the slices, the marks and the setting.
+abbrev pub callTests : List ℕ → ℕ → Limits → Room → ℕ → ℕ → List (Test ℕ)
+callTests table output limits room marks setting =
+    record { answer = 12; applies = leb (outputsOf table) output }
+    ∷ record { answer = 13; applies = beyond? limits }
+    ∷ record { answer = 14; applies = shortSlice? (verticesOf table) (limits .rows) room marks }
+    ∷ record { answer = 15; applies = ltb setting (inputsOf table) }
+    ∷ []
+
+-- "Compare uses 10 to 15 .., each in rising order."
 abbrev pub compareTests : Given → List (Test ℕ)
 compareTests g =
-    tableTests (g .table)
-    ++ (record { answer = 12; applies = leb (outputsOf (g .table)) (g .output) }
-    ∷ record { answer = 13; applies = beyond? (g .limits) }
-    ∷ record { answer = 14; applies = shortSlice? (verticesOf (g .table)) (g .limits .rows) (g .room) (length (g .marks)) }
-    ∷ record { answer = 15; applies = ltb (length (g .setting)) (inputsOf (g .table)) }
-    ∷ [])
+    tableTests (g .table) ++ callTests (g .table) (g .output) (g .limits) (g .room) (length (g .marks)) (length (g .setting))
 
 unfoldable pub refusalOf : Given → ℕ
 refusalOf g = firstRefusal 0 (compareTests g)

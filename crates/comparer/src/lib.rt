@@ -1,1 +1,11 @@
-// compare.
+// compare: the output of a table on both sides.
+mod copy;
+mod refusal;
+mod setting;
+
+// The size limit, the row limit and the step limit. The last is wider, so that one that is too large can be given and refused.
+pub struct Limits {
+    pub size: u32,
+    pub rows: u32,
+    pub steps: u64,
+}
