@@ -1,5 +1,5 @@
 -- The literals of a file's first vertices, words copied, and the table, each written over a list.
-use Prim.Native.Nat.{_*_, _+_, _-_, _<_, _≤_, suc, ℕ}
+use Prim.Native.Nat.{_*_, _+_, _-_, _<_, _≤_, ℕ}
 use Rattle.loader_graph.proofs.Writing.{Writing, ahead-one, writing-begins, writing-ends, writing-turn}
 use Rattle.loader.specs.Build.{literalsFrom}
 use Rattle.text.proofs.DecimalLaws.{stored-append}

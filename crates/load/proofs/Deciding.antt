@@ -22,7 +22,7 @@ use Rattle.table.specs.Refusals.{firstRefusal}
 use borrow.Author.Tests.{eqb-true, ltb-false, not-false}
 use lib.Dec.{eqb, ltb}
 use lib.ListN.{length}
-use mathlib.Core.Bool.{Bool, _||_, cond, false, not, true}
+use mathlib.Core.Bool.{Bool, _||_, false, not, true}
 use mathlib.Core.List.{List}
 use mathlib.Core.Path.{_≡_, ap, refl, subst, sym, _∙_}
 use native.Mathlib.Omega.{arith}

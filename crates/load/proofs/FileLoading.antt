@@ -5,7 +5,6 @@ use Rattle.load.proofs.Passing.{gates-in, literal-front, outputs-in}
 use Rattle.load.specs.File.{GatesAhead, GatesPassed, OutputsAhead}
 use Rattle.netlist.specs.Accepted.{Holds}
 use Rattle.netlist.specs.Check.{gatesIn, outputsIn}
-use Rattle.netlist.specs.Meaning.{andCount}
 use Rattle.netlist.specs.Netlist as netlist
 use Rattle.netlist.specs.Netlist.{AllBelow, Netlist, bodyRecords}
 use Rattle.netlist.specs.Records.{fileRecords}

@@ -20,11 +20,11 @@ use Rattle.netlist.specs.declared.records.Record.{Record}
 use Rattle.table.specs.Limits.{maxAnds}
 use Rattle.text.specs.Decimal.{written}
 use Rattle.text.specs.Split.{upTo}
-use lib.ListN.{drop, getD, length, set, take}
+use lib.ListN.{drop, length, set, take}
 use lib.Seq.{getD-take, take-suc-set}
 use mathlib.Core.List.{List, [], _++_, _∷_, map}
 use mathlib.Core.Logic.{_⊎_, ⊎-elim}
-use mathlib.Core.Path.{_≡_, ap, refl, sym, _∙_}
+use mathlib.Core.Path.{_≡_, ap, refl, _∙_}
 use native.Mathlib.Numerals.{add-one}
 use native.Mathlib.Omega.{arith}
 

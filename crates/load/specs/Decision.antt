@@ -10,10 +10,10 @@ use Rattle.netlist.specs.declared.check.Checked.the-variants.{Accepted}
 use Rattle.netlist.specs.declared.check.Checked.{Checked}
 use Rattle.netlist.specs.declared.check.Summary.{Summary}
 use Rattle.table.specs.Limits.{maxAnds}
-use Rattle.table.specs.Refusals.{Test, firstRefusal}
+use Rattle.table.specs.Refusals.{firstRefusal}
 use lib.Dec.{eqb, ltb}
 use lib.ListN.{length}
-use mathlib.Core.Bool.{Bool, _||_, not}
+use mathlib.Core.Bool.{_||_, not}
 use mathlib.Core.List.{List, [], _∷_}
 
 -- The lengths of the lent slices.

@@ -10,10 +10,10 @@ use Rattle.loader.specs.Load.{maxVertices}
 use Rattle.table.specs.Limits.{maxInputs}
 use Rattle.text.proofs.DecimalLaws.{written-length}
 use Rattle.text.specs.Decimal.{written}
-use lib.ListN.{List·getD-append, drop, length, take}
+use lib.ListN.{List·getD-append, drop, length}
 use lib.Seq.{take-at}
 use mathlib.Core.List.{List}
-use mathlib.Core.Path.{_≡_, ap, refl, sym, _∙_}
+use mathlib.Core.Path.{_≡_, refl, sym, _∙_}
 use native.Mathlib.Omega.{arith}
 
 -- No AND is asked for yet.

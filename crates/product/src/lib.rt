@@ -2,7 +2,6 @@
 use bdd::references::Ending;
 use bdd::unique::Made;
 ghost use Rattle.product.specs.Product.{Ask, Multiplies};
-ghost use mathlib.Core.Path.{_≡_};
 
 // How a product ended: its reference, or a limit that it passed; with the rows then used and the steps taken.
 pub enum Product {

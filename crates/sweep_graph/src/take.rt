@@ -33,7 +33,7 @@ fn wake_at(stages: &mut [u32], w: u32)
 }
 
 // The row of a reference has the owner w; the constant has no row.
-fn own_row(rows: &mut [u32], reference: u32, w: u32)
+pub fn own_row(rows: &mut [u32], reference: u32, w: u32)
     requires { ⌜ (reference / 2 * 4 ≤ length (now rows)) × (w < RADIX) ⌝ }
     ensures { λ _. ⌜ now (rows .exit) ≡ withOwner (now (rows .entry)) (reference / 2) w ⌝ }
 {

@@ -1,0 +1,13 @@
+pub mod DrawModel
+pub mod DropModel
+pub mod HandLaws
+pub mod InputLaws
+pub mod InputModel
+pub mod LookLaws
+pub mod LookModel
+pub mod MeetLaws
+pub mod MeetModel
+pub mod MultiplyModel
+pub mod OperandLaws
+pub mod SettleModel
+pub mod TwinModel

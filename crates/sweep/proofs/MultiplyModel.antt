@@ -1,0 +1,185 @@
+-- A product, as the model takes it.
+use Prim.Native.Nat.{_*_, _<_, _≤_, ℕ}
+use Rattle.aig.specs.Literal.{vertexOf}
+use Rattle.aig.specs.Lookup.{firstWord, secondWord}
+use Rattle.bdd.specs.Store.{Store}
+use Rattle.bdd.specs.Unique.{GivenBack}
+use Rattle.product.specs.Product.{Multiplied, Multiplies, bookOf, outcomeOf, usedBy}
+use Rattle.product.specs.declared.Product.the-variants.{Done, ShortOfRows, ShortOfSteps}
+use Rattle.product.specs.declared.Product.{Product}
+use Rattle.product_model.specs.Run.{run}
+use Rattle.sweep_model.proofs.Stages.{open-has}
+use Rattle.sweep_model.proofs.Steady.{due-within, productOf}
+use Rattle.sweep_model.specs.State.{functionOf, open?, stageOf, withBook}
+use Rattle.sweep_model.specs.Sweep.{conclude, drop, ends, look, meet, multiply, twinFrom, undecided}
+use Rattle.sweep_model.specs.declared.Cause.the-variants.{Rows, Steps}
+use Rattle.sweep.proofs.DropModel.{broken-state, due-inside}
+use Rattle.sweep.proofs.LookModel.{LiteralDrawn, has-stage, literal-drawn, look-models, looks}
+use Rattle.sweep.specs.Inputs.{sheets}
+use Rattle.sweep.specs.Look.{Looks, progressOf, seenBy}
+use Rattle.sweep.specs.Meet.{Board, board}
+use Rattle.sweep.specs.Multiply.{DueOn, Looked, Scene, multiplied, stateOn}
+use Rattle.sweep.specs.Operands.{ProductAsked, firstOperand, secondOperand}
+use Rattle.sweep.specs.Settle.{Ended, Setting, Settled, onBoard, settledState}
+use Rattle.sweep.specs.Words.{posed}
+use Rattle.sweep.specs.declared.look.Seen.{Seen}
+use Rattle.sweep.specs.declared.task.Task.{Task}
+use Rattle.truth.proofs.Booleans.{cond-ap}
+use Rattle.truth.specs.Parts.{size}
+use Rattle.truth.specs.Truth.{Truth, conj}
+use lib.Dec.{ltb}
+use lib.ListN.{length, set}
+use mathlib.Core.Bool.{true}
+use mathlib.Core.List.{List}
+use mathlib.Core.Path.{_∙_, _≡_, ap, ap₂, subst, sym}
+use native.Mathlib.Omega.{arith}
+
+-- The board with other rows.
+abbrev pub onRows : Board → List ℕ → Board
+onRows b rows = board (b .pairs) (sheets (b .sheets .diagrams) (b .sheets .stages) rows (b .sheets .marks))
+
+-- The setting of a product.
+abbrev pub settingOf : Scene → Board → ℕ → ℕ → Setting
+settingOf x b steps k =
+    record { functions = x .functions; entry = x .entry; rows = b .sheets .rows; steps = steps; turns = x .turns; taken = k }
+
+module _ {t : Task} {x : Scene} {v used steps : ℕ} {b : Board} (d : DueOn t x v used steps b) where
+  inside : v < t .count
+  inside = due-inside (d .represents) (d .due)
+
+  first-below : firstWord (b .pairs) v < 2 * v
+  first-below = d .represents .reachable .steady .sound .downward .first-below v (d .due .made) (due-within (d .due))
+
+  second-below : secondWord (b .pairs) v < 2 * v
+  second-below = d .represents .reachable .steady .sound .downward .second-below v (d .due .made) (due-within (d .due))
+
+  -- The operands have diagrams.
+  operand-drawn : (r : ℕ) → r < 2 * v → open? (stageOf (stateOn t b used steps .stages) (vertexOf r)) ≡ true → LiteralDrawn t (x .functions) (onBoard b used steps) r
+  operand-drawn r h e =
+      let l : vertexOf r < t .count = omega (arith, inside) in
+      literal-drawn (d .represents) r l
+      (sym (has-stage (d .represents) (vertexOf r) l) ∙ open-has (stageOf (stateOn t b used steps .stages) (vertexOf r)) e)
+
+  first-drawn : LiteralDrawn t (x .functions) (onBoard b used steps) (firstWord (b .pairs) v)
+  first-drawn = operand-drawn (firstWord (b .pairs) v) first-below (d .due .first-open)
+
+  second-drawn : LiteralDrawn t (x .functions) (onBoard b used steps) (secondWord (b .pairs) v)
+  second-drawn = operand-drawn (secondWord (b .pairs) v) second-below (d .due .second-open)
+
+  -- What the product needs is there.
+  pub product-asked : ProductAsked t v used steps (b .pairs) (b .sheets .diagrams) (b .sheets .rows)
+  product-asked =
+      let rep = d .represents in
+      record {
+        pair = omega (arith, rep .reachable .steady .sound .downward .long, rep .count, inside);
+        first-diagram = omega (arith, first-below, inside, rep .diagrams-long);
+        second-diagram = omega (arith, second-below, inside, rep .diagrams-long);
+        asked = record {
+          store = rep .store;
+          first = first-drawn .within;
+          second = second-drawn .within;
+          few = rep .narrow;
+          under = rep .reachable .accounted .proper .taken;
+          small = rep .short;
+        };
+      }
+
+  -- What the product gave, in another spelling of its answer.
+  abbrev Gave : List ℕ → Product → Type 0
+  Gave rows r =
+      Multiplies (b .sheets .rows) rows (t .rows) used (firstOperand (b .pairs) (b .sheets .diagrams) v) (secondOperand (b .pairs) (b .sheets .diagrams) v)
+      (t .inputs) steps (t .steps) r
+
+  abbrev Ran : List ℕ → Product → Type 0
+  Ran rows r =
+      Multiplied (b .sheets .rows) rows (t .rows) used (firstOperand (b .pairs) (b .sheets .diagrams) v) (secondOperand (b .pairs) (b .sheets .diagrams) v)
+      (t .inputs) steps (t .steps) r
+
+  -- The run is the model's.
+  product-is : (rows : List ℕ) (r : Product) → Ran rows r → productOf (posed t (x .functions)) v (stateOn t b used steps) ≡ outcomeOf rows r
+  product-is rows r m =
+      sym (ap₂ (λ (f g : Truth). run (t .rows) (t .steps) f g (bookOf (b .sheets .rows) used steps)) (first-drawn .means) (second-drawn .means)) ∙ m .ran
+
+  -- Done.
+  module _ (rows : List ℕ) {r : Product} {reference u k : ℕ} (told : r ≡ Done reference u k) (gave : Gave rows r) (long : length rows ≡ length (b .sheets .rows)) where
+    given : Gave rows (Done reference u k)
+    given = subst (Gave rows) told gave
+
+    pub product-ended : Ended t (settingOf x b steps k) v reference u used (onRows b rows)
+    product-ended =
+        record {
+          represents = d .represents;
+          due = d .due;
+          grown = given .0 .grown;
+          long = long;
+          within = given .1 .reference;
+          means =
+              given .1 .means ∙ ap₂ conj (first-drawn .means) (second-drawn .means)
+              ∙ sym (d .represents .reachable .steady .sound .means v (d .due .made) (due-within (d .due)));
+          ran = product-is rows (Done reference u k) (given .0);
+        }
+
+    -- The model goes on from the state that is left.
+    concludes : multiplied t x v used steps b ≡ look (posed t (x .functions)) (settledState t (settingOf x b steps k) v u used (onRows b rows))
+    unfolding multiply conclude
+    concludes =
+        let p = posed t (x .functions) in
+        let s = stateOn t b used steps in
+        ap (conclude p v s) (product-is rows (Done reference u k) (given .0))
+        ∙ sym
+        (cond-ap (look p) (ltb (t .size) (size (functionOf p v))) (drop v (bookOf rows u k) s)
+        (meet p v (withBook (bookOf rows u k) s) (twinFrom p (s .stages) v 0 (length (s .stages)))))
+
+    module _ {after : Board} {more : ℕ} (s : (y : Setting) → Ended t y v reference u used (onRows b rows) → Settled t y v u used (onRows b rows) after more) where
+      settled : Settled t (settingOf x b steps k) v u used (onRows b rows) after more
+      settled = s (settingOf x b steps k) product-ended
+
+      pub multiply-looks : Looks t (after .pairs) (after .sheets .diagrams) (after .sheets .stages)
+      multiply-looks = looks (settled .represents)
+
+      pub multiply-looked : {seen : Seen} → seen ≡ seenBy t (after .pairs) (after .sheets .diagrams) (after .sheets .stages) → Looked t x v used steps b after seen more k
+      multiply-looked e =
+          record {
+            reached =
+                concludes ∙ ap (look (posed t (x .functions))) (settled .reached) ∙ sym (look-models (settled .represents))
+                ∙ ap (progressOf (after .sheets .rows) (t .inputs) (stateOn t after more k)) (sym e);
+            represents = settled .represents;
+          }
+
+  -- What breaking off needs is there.
+  short-back : (rows : List ℕ) (r : Product) → Ran rows r → (Store rows (t .rows) (usedBy r) × (used ≤ usedBy r)) × (v < length (b .sheets .marks))
+  short-back rows r m = ((m .grown .store, m .grown .more), omega (arith, inside, d .represents .marks-long))
+
+  -- Short of rows.
+  module _ (rows : List ℕ) {r : Product} {u k : ℕ} (told : r ≡ ShortOfRows u k) (gave : Gave rows r) where
+    pub lacking-rows : (Store rows (t .rows) u × (used ≤ u)) × (v < length (b .sheets .marks))
+    lacking-rows = short-back rows (ShortOfRows u k) (subst (Gave rows) told gave)
+
+    pub multiply-lacks-rows :
+        {last marks : List ℕ} → GivenBack rows last (t .rows) u used → length last ≡ length (b .sheets .rows) → marks ≡ set (b .sheets .marks) v 3
+        → multiplied t x v used steps b
+        ≡ ends (undecided (Rows v)) (stateOn t (board (b .pairs) (sheets (b .sheets .diagrams) (b .sheets .stages) last marks)) used k)
+    unfolding multiply conclude
+    multiply-lacks-rows g long em =
+        let m : Ran rows (ShortOfRows u k) = subst (Gave rows) told gave in
+        ap (conclude (posed t (x .functions)) v (stateOn t b used steps)) (product-is rows (ShortOfRows u k) m)
+        ∙ rw em
+        (ap (ends (undecided (Rows v)))
+        (sym (broken-state (d .represents) (record { grown = m .grown; given-back = g; long = long }) (d .due) k)))
+
+  -- Short of steps.
+  module _ (rows : List ℕ) {r : Product} {u k : ℕ} (told : r ≡ ShortOfSteps u k) (gave : Gave rows r) where
+    pub lacking-steps : (Store rows (t .rows) u × (used ≤ u)) × (v < length (b .sheets .marks))
+    lacking-steps = short-back rows (ShortOfSteps u k) (subst (Gave rows) told gave)
+
+    pub multiply-lacks-steps :
+        {last marks : List ℕ} → GivenBack rows last (t .rows) u used → length last ≡ length (b .sheets .rows) → marks ≡ set (b .sheets .marks) v 3
+        → multiplied t x v used steps b
+        ≡ ends (undecided (Steps v)) (stateOn t (board (b .pairs) (sheets (b .sheets .diagrams) (b .sheets .stages) last marks)) used k)
+    unfolding multiply conclude
+    multiply-lacks-steps g long em =
+        let m : Ran rows (ShortOfSteps u k) = subst (Gave rows) told gave in
+        ap (conclude (posed t (x .functions)) v (stateOn t b used steps)) (product-is rows (ShortOfSteps u k) m)
+        ∙ rw em
+        (ap (ends (undecided (Steps v)))
+        (sym (broken-state (d .represents) (record { grown = m .grown; given-back = g; long = long }) (d .due) k)))

@@ -1,0 +1,9 @@
+pub mod Words
+pub mod Look
+pub mod Inputs
+pub mod Represents
+pub mod Given
+pub mod Meet
+pub mod Operands
+pub mod Settle
+pub mod Multiply

@@ -1,0 +1,91 @@
+// A vertex has its product taken.
+use crate::drop::break_off;
+use crate::look::Seen;
+use crate::look::look;
+use crate::operands::take_product;
+use crate::settle::settle;
+use crate::task::Task;
+use product::Product;
+ghost use Prim.Native.Nat.{_*_, _≤_};
+ghost use Rattle.sweep.specs.Inputs.{sheets};
+ghost use Rattle.sweep.specs.Meet.{board};
+ghost use Rattle.sweep.specs.Multiply.{DueIn, Takes};
+ghost use lib.ListN.{length};
+
+// What was seen after a product that is done, or the limit that was passed; with the rows then used and the steps taken.
+pub enum Step {
+    Looked {
+        seen: Seen,
+        used: usize,
+        steps: usize,
+    },
+    Rows {
+        used: usize,
+        steps: usize,
+    },
+    Steps {
+        used: usize,
+        steps: usize,
+    },
+}
+
+// The product of v's operands is taken; it is dropped or met and the two literals are looked at, or it is broken off.
+pub fn multiply(
+    pairs: &mut [u32],
+    places: &mut [u32],
+    diagrams: &mut [u32],
+    stages: &mut [u32],
+    rows: &mut [u32],
+    marks: &mut [u8],
+    task: Task,
+    v: u32,
+    used: usize,
+    steps: usize,
+) -> Step
+    requires due { ⌜ DueIn task v used steps (board (now pairs) (sheets (now diagrams) (now stages) (now rows) (now marks))) ⌝ }
+    requires long { ⌜ 2 * task .count ≤ length (now places) ⌝ }
+    ensures { λ r. ⌜ Takes task v used steps (board (now (pairs .entry)) (sheets (now (diagrams .entry)) (now (stages .entry)) (now (rows .entry)) (now (marks .entry)))) (board (now (pairs .exit)) (sheets (now (diagrams .exit)) (now (stages .exit)) (now (rows .exit)) (now (marks .exit)))) r ⌝ }
+{
+    let product = take_product(&pairs[..], &diagrams[..], rows, task, v, used, steps);
+    match product {
+        Product::Done {
+            reference,
+            used: more,
+            steps: taken,
+        } => {
+            let left = settle(
+                pairs,
+                places,
+                diagrams,
+                stages,
+                rows,
+                marks,
+                task,
+                v,
+                reference,
+                more,
+                used,
+            );
+            let seen = look(&pairs[..], &diagrams[..], &stages[..], task);
+            Step::Looked {
+                seen,
+                used: left,
+                steps: taken,
+            }
+        }
+        Product::ShortOfRows {
+            used: more,
+            steps: taken,
+        } => {
+            break_off(rows, marks, task, v, more, used);
+            Step::Rows { used, steps: taken }
+        }
+        Product::ShortOfSteps {
+            used: more,
+            steps: taken,
+        } => {
+            break_off(rows, marks, task, v, more, used);
+            Step::Steps { used, steps: taken }
+        }
+    }
+}
