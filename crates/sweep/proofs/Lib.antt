@@ -8,6 +8,9 @@ pub mod LookModel
 pub mod MeetLaws
 pub mod MeetModel
 pub mod MultiplyModel
+pub mod OpenModel
 pub mod OperandLaws
+pub mod ScanModel
 pub mod SettleModel
 pub mod TwinModel
+pub mod VisitModel

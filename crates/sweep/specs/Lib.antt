@@ -7,3 +7,5 @@ pub mod Meet
 pub mod Operands
 pub mod Settle
 pub mod Multiply
+pub mod Visit
+pub mod Scan

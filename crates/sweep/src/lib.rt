@@ -7,6 +7,8 @@ pub mod meet;
 pub mod merge;
 pub mod multiply;
 pub mod operands;
+pub mod scan;
 pub mod settle;
 pub mod task;
 pub mod twin;
+pub mod visit;
