@@ -45,26 +45,11 @@ fn show(
     io::write_all(STDOUT_FILENO, b"\n");
 }
 
-// A small pair, and the first words of its table.
+// A pair with slices that are long enough, and the first words of the table after it.
 fn show_words(name: &[u8], left: &[u8], right: &[u8], count: usize)
     requires { ⌜ count ≤ 12419 ⌝ }
 {
-    let mut table = [7u32; TABLE];
-    let mut pairs = [7u32; SLICE];
-    let mut look = [7u32; SLICE];
-    let mut literals = [7u32; SLICE];
-    let mut outputs = [7u32; SLICE];
-    show(
-        name,
-        left,
-        right,
-        &mut table,
-        &mut pairs,
-        &mut look,
-        &mut literals,
-        &mut outputs,
-    );
-    print_words(&table, count);
+    show_lent(name, left, right, TABLE, SLICE, SLICE, SLICE, SLICE, count);
 }
 
 fn print_words(words: &[u32], count: usize)
@@ -266,7 +251,7 @@ fn show_fronts(
     );
 }
 
-// A pair with lent slices of some lengths.
+// A pair with lent slices of some lengths, and the first words of the table after it.
 fn show_lent(
     name: &[u8],
     left: &[u8],
@@ -276,8 +261,10 @@ fn show_lent(
     look: usize,
     literals: usize,
     outputs: usize,
+    count: usize,
 )
     requires { ⌜ (table ≤ 12419) × (pairs ≤ 12418) × (look ≤ 12418) × (literals ≤ 12418) × (outputs ≤ 12418) ⌝ }
+    requires { ⌜ count ≤ 12419 ⌝ }
 {
     let mut words = [7u32; TABLE];
     let mut one = [7u32; SLICE];
@@ -299,41 +286,30 @@ fn show_lent(
         &mut four,
         outputs,
     );
-    print_words(&words, 3);
+    print_words(&words, count);
+}
+
+// A pair with slices that may be too short.
+fn show_short(
+    name: &[u8],
+    left: &[u8],
+    right: &[u8],
+    table: usize,
+    pairs: usize,
+    look: usize,
+    literals: usize,
+    outputs: usize,
+)
+    requires { ⌜ (table ≤ 12419) × (pairs ≤ 12418) × (look ≤ 12418) × (literals ≤ 12418) × (outputs ≤ 12418) ⌝ }
+{
+    show_lent(name, left, right, table, pairs, look, literals, outputs, 3);
 }
 
 fn lengths(left: &[u8], right: &[u8], more: &[u8]) {
-    show_lent(
-        b"the largest pair",
-        left,
-        right,
-        TABLE,
-        SLICE,
-        SLICE,
-        SLICE,
-        SLICE,
-    );
-    show_lent(
-        b"one file twice",
-        left,
-        left,
-        TABLE,
-        SLICE,
-        SLICE,
-        SLICE,
-        SLICE,
-    );
-    show_lent(
-        b"one AND more",
-        more,
-        right,
-        TABLE,
-        SLICE,
-        SLICE,
-        SLICE,
-        SLICE,
-    );
-    show_lent(
+    show_words(b"the largest pair", left, right, 3);
+    show_words(b"one file twice", left, left, 3);
+    show_words(b"one AND more", more, right, 3);
+    show_short(
         b"one AND more, no table",
         more,
         right,
@@ -343,7 +319,7 @@ fn lengths(left: &[u8], right: &[u8], more: &[u8]) {
         SLICE,
         SLICE,
     );
-    show_lent(
+    show_short(
         b"a table one word short",
         left,
         right,
@@ -353,7 +329,7 @@ fn lengths(left: &[u8], right: &[u8], more: &[u8]) {
         SLICE,
         SLICE,
     );
-    show_lent(
+    show_short(
         b"all slices short",
         left,
         right,
@@ -366,7 +342,7 @@ fn lengths(left: &[u8], right: &[u8], more: &[u8]) {
 }
 
 fn slices(left: &[u8], right: &[u8]) {
-    show_lent(
+    show_short(
         b"pairs one word short",
         left,
         right,
@@ -376,7 +352,7 @@ fn slices(left: &[u8], right: &[u8]) {
         SLICE,
         SLICE,
     );
-    show_lent(
+    show_short(
         b"the look-up one word short",
         left,
         right,
@@ -386,7 +362,7 @@ fn slices(left: &[u8], right: &[u8]) {
         SLICE,
         SLICE,
     );
-    show_lent(
+    show_short(
         b"literals one word short",
         left,
         right,
@@ -396,7 +372,7 @@ fn slices(left: &[u8], right: &[u8]) {
         SLICE - 1,
         SLICE,
     );
-    show_lent(
+    show_short(
         b"outputs one word short",
         left,
         right,
@@ -423,15 +399,11 @@ fn large() {
     slices(front(&left, left_end), front(&right, right_end));
 }
 
-fn show_bytes(name: &[u8], left: &[u8], right: &[u8]) {
-    show_lent(name, left, right, TABLE, SLICE, SLICE, SLICE, SLICE);
-}
-
 fn long() {
     let file = [b'\n'; BYTES];
-    show_bytes(b"a file of 65536 bytes", &file[..65536], b"");
-    show_bytes(b"a file of 65537 bytes", &file, b"");
-    show_bytes(b"a damaged file and one of 65537 bytes", b"N", &file);
+    show_words(b"a file of 65536 bytes", &file[..65536], b"", 3);
+    show_words(b"a file of 65537 bytes", &file, b"", 3);
+    show_words(b"a damaged file and one of 65537 bytes", b"N", &file, 3);
 }
 
 fn main() {

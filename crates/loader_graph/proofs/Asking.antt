@@ -1,28 +1,30 @@
 -- An AND asked for in the slices: the graph at their front is the definition's, and they hold a graph again.
-use Prim.Native.Nat.{_*_, _+_, _<_, suc, ℕ}
+use Prim.Native.Nat.{_*_, _+_, _<_, _≤_, suc, ℕ}
 use Rattle.aig.proofs.FirstVertexLaws.{first-vertex-frame, found-at}
 use Rattle.aig.proofs.FoldLaws.{pair-unfolded}
 use Rattle.aig.proofs.IndexLaws.{enter-keeps, row-length}
 use Rattle.aig.specs.Fold.{foldOf}
 use Rattle.aig.specs.Literal.{lit, literalOf, negate}
-use Rattle.aig.specs.Lookup.{entered, firstVertex, withRow}
+use Rattle.aig.specs.Lookup.{Indexed, entered, firstVertex, withRow}
 use Rattle.aig.specs.declared.fold.Folded.the-variants.{Pair, To}
 use Rattle.aig.specs.declared.literal.Literal.{Literal}
 use Rattle.aig.specs.declared.lookup.Found.the-variants.{At, Nothing}
-use Rattle.loader_graph.specs.Slices.{Graph, buildOf, builtOf, oneFolded, oneFound, oneMade}
+use Rattle.loader_graph.specs.Slices.{Counted, Graph, buildOf, builtOf, countsAfter}
 use Rattle.loader_graph.specs.declared.Counts.{Counts}
+use Rattle.loader_graph.specs.declared.Ended.the-variants.{Folded, Found, Made}
+use Rattle.loader_graph.specs.declared.Ended.{Ended}
 use Rattle.loader.proofs.AskLaws.{Asked, ask-cases, folded, found, made}
 use Rattle.loader.specs.Build.{Build, Built, askAnd, askGate, askXor, foldedOrNot, foundOrMade, inverted}
 use Rattle.loader.specs.Load.{maxVertices}
 use Rattle.netlist.specs.Check.{andsOf}
 use Rattle.netlist.specs.declared.records.Operation.the-variants.{And, Or, Xor}
 use Rattle.netlist.specs.declared.records.Operation.{Operation}
-use Rattle.table.specs.Limits.{maxAnds}
+use Rattle.table.specs.Limits.{maxAnds, maxInputs}
 use lib.ListN.{length, length-set, set, take}
 use lib.Seq.{getD-take, take-suc-set}
 use mathlib.Core.Bool.{false}
 use mathlib.Core.List.{List, [], _++_, _∷_, append-assoc}
-use mathlib.Core.Path.{_≡_, ap, refl, _∙_}
+use mathlib.Core.Path.{_≡_, ap, refl, sym, _∙_}
 use native.Mathlib.Omega.{arith}
 
 -- The words of the vertices so far, and those of one more.
@@ -45,6 +47,12 @@ plain v = omega arith
 front-first : (pairs : List ℕ) (p q n : ℕ) → firstVertex (take (2 * n) pairs) p q n ≡ firstVertex pairs p q n
 front-first pairs p q n = first-vertex-frame pairs (take (2 * n) pairs) p q n (λ i h. getD-take (2 * n) pairs i 0 h)
 
+-- The counts keep their bounds.
+counted-after : {c : Counts} → Counted c → (ended : Ended) → Counted (countsAfter c ended)
+counted-after k Folded = record { some = k .some; vertices = omega (arith, k .vertices); folded = omega (arith, k .folded); found = omega (arith, k .found) }
+counted-after k Found = record { some = k .some; vertices = omega (arith, k .vertices); folded = omega (arith, k .folded); found = omega (arith, k .found) }
+counted-after k Made = record { some = omega arith; vertices = omega (arith, k .vertices); folded = omega (arith, k .folded); found = omega (arith, k .found) }
+
 module _ {pairs look : List ℕ} {c : Counts} (g : Graph pairs look c) (more : c .asked < maxAnds) where
   -- There is room for one more vertex.
   pub room-below : c .vertices < maxVertices
@@ -53,18 +61,15 @@ module _ {pairs look : List ℕ} {c : Counts} (g : Graph pairs look c) (more : c
   pub row-fits : 2 * c .vertices + 1 < length pairs
   row-fits = omega (arith, g .long, room-below)
 
-  -- The counts keep their bounds.
-  folded-graph : Graph pairs look (oneFolded c)
-  folded-graph = let k = g .counted in
-      record { counted = record { some = k .some; vertices = omega (arith, k .vertices); folded = omega (arith, k .folded); found = omega (arith, k .found) }; index = g .index; long = g .long }
+  folded-graph : Graph pairs look (countsAfter c Folded)
+  folded-graph = record { counted = counted-after (g .counted) Folded; index = g .index; long = g .long }
 
-  found-graph : Graph pairs look (oneFound c)
-  found-graph = let k = g .counted in
-      record { counted = record { some = k .some; vertices = omega (arith, k .vertices); folded = omega (arith, k .folded); found = omega (arith, k .found) }; index = g .index; long = g .long }
+  found-graph : Graph pairs look (countsAfter c Found)
+  found-graph = record { counted = counted-after (g .counted) Found; index = g .index; long = g .long }
 
   module _ (p q : ℕ) where
     pub and-folded : {r : Literal} → foldOf p q ≡ To r
-        → (builtOf pairs (record { literal = r; counts = oneFolded c }) ≡ askAnd (buildOf pairs c) p q) × Graph pairs look (oneFolded c)
+        → (builtOf pairs (record { literal = r; counts = countsAfter c Folded }) ≡ askAnd (buildOf pairs c) p q) × Graph pairs look (countsAfter c Folded)
     unfolding askAnd foldedOrNot
     and-folded e = (rw e refl, folded-graph)
 
@@ -74,7 +79,7 @@ module _ {pairs look : List ℕ} {c : Counts} (g : Graph pairs look c) (more : c
       pair-apart h = omega (arith, pair-unfolded p q e .ordered)
 
       pub and-found : {v : ℕ} → firstVertex pairs (x .0) (y .0) (c .vertices) ≡ At v
-          → (builtOf pairs (record { literal = lit (literalOf v false); counts = oneFound c }) ≡ askAnd (buildOf pairs c) p q) × Graph pairs look (oneFound c)
+          → (builtOf pairs (record { literal = lit (literalOf v false); counts = countsAfter c Found }) ≡ askAnd (buildOf pairs c) p q) × Graph pairs look (countsAfter c Found)
       unfolding askAnd foldedOrNot foundOrMade
       and-found {v} f = (rw (e, front-first pairs (x .0) (y .0) (c .vertices), f, plain v) refl, found-graph)
 
@@ -83,18 +88,17 @@ module _ {pairs look : List ℕ} {c : Counts} (g : Graph pairs look c) (more : c
       found-below {v} f = omega (arith, room-below, found-at pairs (x .0) (y .0) (c .vertices) v f .within)
 
       module _ (f : firstVertex pairs (x .0) (y .0) (c .vertices) ≡ Nothing) where
-        made-graph : Graph (withRow pairs (c .vertices) (x .0) (y .0)) (entered look maxVertices (c .vertices) (x .0) (y .0)) (oneMade c)
+        made-graph : Graph (withRow pairs (c .vertices) (x .0) (y .0)) (entered look maxVertices (c .vertices) (x .0) (y .0)) (countsAfter c Made)
         made-graph =
-            let k = g .counted in
             record {
-              counted = record { some = omega arith; vertices = omega (arith, k .vertices); folded = omega (arith, k .folded); found = omega (arith, k .found) };
-              index = enter-keeps (x .0) (y .0) (g .index) pair-apart f (k .some) room-below row-fits;
+              counted = counted-after (g .counted) Made;
+              index = enter-keeps (x .0) (y .0) (g .index) pair-apart f (g .counted .some) room-below row-fits;
               long = rw (row-length pairs (c .vertices) (x .0) (y .0) row-fits) (g .long);
             }
 
         pub and-made :
-            (builtOf (withRow pairs (c .vertices) (x .0) (y .0)) (record { literal = lit (literalOf (c .vertices) false); counts = oneMade c }) ≡ askAnd (buildOf pairs c) p q)
-            × Graph (withRow pairs (c .vertices) (x .0) (y .0)) (entered look maxVertices (c .vertices) (x .0) (y .0)) (oneMade c)
+            (builtOf (withRow pairs (c .vertices) (x .0) (y .0)) (record { literal = lit (literalOf (c .vertices) false); counts = countsAfter c Made }) ≡ askAnd (buildOf pairs c) p q)
+            × Graph (withRow pairs (c .vertices) (x .0) (y .0)) (entered look maxVertices (c .vertices) (x .0) (y .0)) (countsAfter c Made)
         unfolding askAnd foldedOrNot foundOrMade
         and-made =
             (rw (e, front-first pairs (x .0) (y .0) (c .vertices), f, front-row pairs (c .vertices) (x .0) (y .0) row-fits, plain (c .vertices)) refl, made-graph)

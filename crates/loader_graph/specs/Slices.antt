@@ -3,6 +3,8 @@ use Prim.Native.Nat.{_*_, _+_, _<_, _≤_, ℕ}
 use Rattle.aig.specs.Lookup.{Indexed}
 use Rattle.loader_graph.specs.declared.Asked.{Asked}
 use Rattle.loader_graph.specs.declared.Counts.{Counts}
+use Rattle.loader_graph.specs.declared.Ended.the-variants.{Folded, Found, Made}
+use Rattle.loader_graph.specs.declared.Ended.{Ended}
 use Rattle.loader.specs.Build.{Build, Built, Traced}
 use Rattle.loader.specs.Load.{maxVertices}
 use Rattle.table.specs.Limits.{maxAnds, maxInputs}
@@ -22,15 +24,11 @@ builtOf pairs a = record { literal = a .literal .0; build = buildOf pairs (a .co
 abbrev pub tracedOf : List ℕ → ℕ → List ℕ → Counts → Traced
 tracedOf literals n pairs c = record { literals = take n literals; build = buildOf pairs c }
 
--- The counts after one more AND, folded, found or made.
-abbrev pub oneFolded : Counts → Counts
-oneFolded c = record { vertices = c .vertices; asked = c .asked + 1; folded = c .folded + 1; found = c .found }
-
-abbrev pub oneFound : Counts → Counts
-oneFound c = record { vertices = c .vertices; asked = c .asked + 1; folded = c .folded; found = c .found + 1 }
-
-abbrev pub oneMade : Counts → Counts
-oneMade c = record { vertices = c .vertices + 1; asked = c .asked + 1; folded = c .folded; found = c .found }
+-- "Each AND asked for is folded, found or made.": the counts after one more.
+abbrev pub countsAfter : Counts → Ended → Counts
+countsAfter c Folded = record { vertices = c .vertices; asked = c .asked + 1; folded = c .folded + 1; found = c .found }
+countsAfter c Found = record { vertices = c .vertices; asked = c .asked + 1; folded = c .folded; found = c .found + 1 }
+countsAfter c Made = record { vertices = c .vertices + 1; asked = c .asked + 1; folded = c .folded; found = c .found }
 
 -- The counts keep their bounds.
 pub record Counted (c : Counts) : Type 0 where

@@ -7,7 +7,7 @@ use aig::lookup::Found;
 use netlist::records::Operation;
 ghost use Prim.Native.Nat.{_*_, _+_, _<_, _≤_};
 ghost use Rattle.aig.specs.Lookup.{entered, ownWords, withRow};
-ghost use Rattle.loader_graph.specs.Slices.{Graph, Roomy, buildOf, builtOf, oneFolded, oneFound, oneMade};
+ghost use Rattle.loader_graph.specs.Slices.{Graph, Roomy, buildOf, builtOf, countsAfter};
 ghost use Rattle.loader.specs.Build.{askAnd, askGate, askXor, emptyBuild};
 ghost use Rattle.loader.specs.Load.{maxVertices};
 ghost use Rattle.netlist.specs.Check.{andsOf};
@@ -33,40 +33,39 @@ pub struct Asked {
     pub counts: Counts,
 }
 
+// How an AND that is asked for ends.
+pub enum Ended {
+    Folded,
+    Found,
+    Made,
+}
+
 impl Counts {
-    fn one_folded(self) -> Self
+    // The counts after one more AND.
+    fn after(self, ended: Ended) -> Self
         requires { ⌜ Roomy self ⌝ }
-        ensures { λ r. ⌜ r ≡ oneFolded self ⌝ }
+        ensures { λ r. ⌜ r ≡ countsAfter self ended ⌝ }
     {
-        Counts {
-            vertices: self.vertices,
-            asked: self.asked + 1,
-            folded: self.folded + 1,
-            found: self.found,
-        }
-    }
-
-    fn one_found(self) -> Self
-        requires { ⌜ Roomy self ⌝ }
-        ensures { λ r. ⌜ r ≡ oneFound self ⌝ }
-    {
-        Counts {
-            vertices: self.vertices,
-            asked: self.asked + 1,
-            folded: self.folded,
-            found: self.found + 1,
-        }
-    }
-
-    fn one_made(self) -> Self
-        requires { ⌜ Roomy self ⌝ }
-        ensures { λ r. ⌜ r ≡ oneMade self ⌝ }
-    {
-        Counts {
-            vertices: self.vertices + 1,
-            asked: self.asked + 1,
-            folded: self.folded,
-            found: self.found,
+        let asked = self.asked + 1;
+        match ended {
+            Ended::Folded => Counts {
+                vertices: self.vertices,
+                asked,
+                folded: self.folded + 1,
+                found: self.found,
+            },
+            Ended::Found => Counts {
+                vertices: self.vertices,
+                asked,
+                folded: self.folded,
+                found: self.found + 1,
+            },
+            Ended::Made => Counts {
+                vertices: self.vertices + 1,
+                asked,
+                folded: self.folded,
+                found: self.found,
+            },
         }
     }
 }
@@ -113,7 +112,7 @@ fn ask_and(pairs: &mut [u32], look: &mut [u32], counts: Counts, p: Literal, q: L
     match folded {
         Folded::To(literal) => Asked {
             literal,
-            counts: counts.one_folded(),
+            counts: counts.after(Ended::Folded),
         },
         Folded::Pair(x, y) => {
             let found = lookup::find_vertex(
@@ -127,13 +126,13 @@ fn ask_and(pairs: &mut [u32], look: &mut [u32], counts: Counts, p: Literal, q: L
             match found {
                 Found::At(v) => Asked {
                     literal: Literal::new(v, false),
-                    counts: counts.one_found(),
+                    counts: counts.after(Ended::Found),
                 },
                 Found::Nothing => {
                     add_row(pairs, look, vertices, x.0, y.0);
                     Asked {
                         literal: Literal::new(vertices, false),
-                        counts: counts.one_made(),
+                        counts: counts.after(Ended::Made),
                     }
                 }
             }

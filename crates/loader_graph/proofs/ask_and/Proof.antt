@@ -13,8 +13,8 @@ fold-pair-requires c κs = search needs
 enum-known-folded : tie.Need-enum-known-folded
 enum-known-folded c = search needs
 
-one-folded-requires : tie.Need-one-folded-requires
-one-folded-requires c κs = search needs
+after-requires : tie.Need-after-requires
+after-requires c κs = search needs
 
 enum-known-folded-2 : tie.Need-enum-known-folded-2
 enum-known-folded-2 c = search needs
@@ -31,8 +31,8 @@ new-requires c κs =
     let e = sym (c .before .before .before .before .before .before .before .before .before .fold-pair .ensures) ∙ c .before .before .before .before .before .before .before .folded2 .given .1 in
     omega (arith, found-below (s .pre .0) (s .pre .1) _ _ e (sym (c .before .before .before .find-vertex .ensures) ∙ c .before .found .given .1))
 
-one-found-requires : tie.Need-one-found-requires
-one-found-requires c κs = search needs
+after-requires-2 : tie.Need-after-requires-2
+after-requires-2 c κs = search needs
 
 enum-told : tie.Need-enum-told
 enum-told c = search needs
@@ -43,11 +43,11 @@ add-row-requires c κs = search needs
 new-requires-2 : tie.Need-new-requires-2
 new-requires-2 c κs = search needs
 
-one-made-requires : tie.Need-one-made-requires
-one-made-requires c κs = search needs
+after-requires-3 : tie.Need-after-requires-3
+after-requires-3 c κs = search needs
 
 returns : tie.Need-returns
-returns c = rw (c .one-folded .ensures) (and-folded (c .before .before .before .before .before .before .before .pre .0) (c .before .before .before .before .before .before .before .pre .1) _ _ (sym (c .before .before .before .before .fold-pair .ensures) ∙ c .before .before .folded .given .1))
+returns c = rw (c .after .ensures) (and-folded (c .before .before .before .before .before .before .before .pre .0) (c .before .before .before .before .before .before .before .pre .1) _ _ (sym (c .before .before .before .before .fold-pair .ensures) ∙ c .before .before .folded .given .1))
 
 same-length : tie.Need-same-length
 same-length c = search needs
@@ -59,7 +59,7 @@ returns-2 : tie.Need-returns-2
 returns-2 c =
     let s = c .before .before .before .before .before .before .before .before .before .before .before .before .before .before in
     let e = sym (c .before .before .before .before .before .before .before .before .before .before .before .fold-pair .ensures) ∙ c .before .before .before .before .before .before .before .before .before .folded2 .given .1 in
-    rw (c .one-found .ensures, c .before .new .ensures)
+    rw (c .after2 .ensures, c .before .new .ensures)
     (and-found (s .pre .0) (s .pre .1) _ _ e (sym (c .before .before .before .before .before .find-vertex .ensures) ∙ c .before .before .before .found .given .1))
 
 same-length-3 : tie.Need-same-length-3
@@ -72,7 +72,7 @@ returns-3 : tie.Need-returns-3
 returns-3 c =
     let s = c .before .before .before .before .before .before .before .before .before .before .before .before .before .before .before .before .before .before .before .before in
     let e = sym (c .before .before .before .before .before .before .before .before .before .before .before .before .before .before .before .before .before .fold-pair .ensures) ∙ c .before .before .before .before .before .before .before .before .before .before .before .before .before .before .before .folded2 .given .1 in
-    rw (c .one-made .ensures, c .before .new2 .ensures, c .before .before .before .before .before .before .add-row .ensures .0, c .before .before .before .before .before .before .add-row .ensures .1)
+    rw (c .after3 .ensures, c .before .new2 .ensures, c .before .before .before .before .before .before .add-row .ensures .0, c .before .before .before .before .before .before .add-row .ensures .1)
     (and-made (s .pre .0) (s .pre .1) _ _ e (sym (c .before .before .before .before .before .before .before .before .before .before .before .find-vertex .ensures) ∙ c .before .before .before .before .before .before .before .before .before .enum-told .given .1))
 
 pub ask-and-spec : {M : Type 1} → statement M
@@ -81,16 +81,16 @@ ask-and-spec =
     (tie.spec
     fold-pair-requires
     enum-known-folded
-    one-folded-requires
+    after-requires
     enum-known-folded-2
     find-vertex-requires
     enum-known-found
     new-requires
-    one-found-requires
+    after-requires-2
     enum-told
     add-row-requires
     new-requires-2
-    one-made-requires
+    after-requires-3
     returns
     same-length
     same-length-2
