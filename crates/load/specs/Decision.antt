@@ -16,11 +16,6 @@ use lib.ListN.{length}
 use mathlib.Core.Bool.{_||_, not}
 use mathlib.Core.List.{List, [], _∷_}
 
--- The lengths of the lent slices.
-abbrev pub roomOf : ℕ → ℕ → ℕ → ℕ → ℕ → Room
-roomOf table pairs look literals outputs =
-    record { table = table; pairs = pairs; look = look; literals = literals; outputs = outputs }
-
 -- "then 7, 8, 9, 14", by the counts of two accepted files.
 unfoldable pub pairDecision : Summary → Summary → Room → Decision
 pairDecision s t room =

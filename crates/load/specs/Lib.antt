@@ -1,3 +1,4 @@
 pub mod Decision
 pub mod File
+pub mod Lent
 pub mod Pair

@@ -2,8 +2,6 @@
 use Prim.Native.Nat.{_*_, _+_, _-_, _≤_, ℕ}
 use Rattle.loader.specs.Build.{PairBuilt, buildPair}
 use Rattle.loader.specs.Load.{maxVertices}
-use Rattle.loader.specs.declared.Loaded.the-variants.{Accepted, Refused}
-use Rattle.loader.specs.declared.Loaded.{Loaded}
 use Rattle.load.specs.File.{netlistOf}
 use Rattle.netlist.specs.Accepted.{Holds}
 use Rattle.netlist.specs.declared.check.Summary.{Summary}
@@ -45,18 +43,3 @@ pub record Enough (pairs look literals outputs : ℕ) : Type 0 where
 -- The graph of both files.
 abbrev pub pairOf : List ℕ → List ℕ → Summary → Summary → PairBuilt
 pairOf one two s t = buildPair (netlistOf one s) (netlistOf two t)
-
--- The four working slices.
-pub record Working : Type 0 where
-  pub pairs : List ℕ
-  pub look : List ℕ
-  pub literals : List ℕ
-  pub outputs : List ℕ
-
-abbrev pub working : List ℕ → List ℕ → List ℕ → List ℕ → Working
-working pairs look literals outputs = record { pairs = pairs; look = look; literals = literals; outputs = outputs }
-
--- "refusals leaving all of them unchanged, and free are only the working slices"
-abbrev pub Kept : Loaded → Working → Working → Type 0
-Kept (Accepted t) before after = Unit
-Kept (Refused k f n) before after = after ≡ before

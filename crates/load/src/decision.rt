@@ -3,7 +3,8 @@ use netlist::check;
 use netlist::check::Checked;
 use netlist::check::Summary;
 ghost use Rattle.loader.specs.Load.{shortSlice?};
-ghost use Rattle.load.specs.Decision.{decision, pairDecision, readDecision, roomOf};
+ghost use Rattle.load.specs.Decision.{decision, pairDecision, readDecision};
+ghost use Rattle.load.specs.Lent.{roomOf};
 ghost use mathlib.Core.Path.{_≡_};
 
 // A refusal, or the summaries of two files that are loaded.

@@ -2,8 +2,7 @@
 use crate::decision::Decision;
 use loader::Loaded;
 ghost use Rattle.loader.specs.Load.{loadResult, tableAfter};
-ghost use Rattle.load.specs.Decision.{roomOf};
-ghost use Rattle.load.specs.Pair.{Kept, working};
+ghost use Rattle.load.specs.Lent.{Kept, roomOf, working};
 ghost use Rattle.netlist.specs.Check.{readNetlist};
 ghost use lib.ListN.{length};
 ghost use mathlib.Core.Path.{_≡_};

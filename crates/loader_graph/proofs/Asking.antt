@@ -1,30 +1,30 @@
 -- An AND asked for in the slices: the graph at their front is the definition's, and they hold a graph again.
-use Prim.Native.Nat.{_*_, _+_, _<_, _≤_, suc, ℕ}
+use Prim.Native.Nat.{_*_, _+_, _<_, suc, ℕ}
 use Rattle.aig.proofs.FirstVertexLaws.{first-vertex-frame, found-at}
 use Rattle.aig.proofs.FoldLaws.{pair-unfolded}
 use Rattle.aig.proofs.IndexLaws.{enter-keeps, row-length}
 use Rattle.aig.specs.Fold.{foldOf}
 use Rattle.aig.specs.Literal.{lit, literalOf, negate}
-use Rattle.aig.specs.Lookup.{Indexed, entered, firstVertex, withRow}
+use Rattle.aig.specs.Lookup.{entered, firstVertex, withRow}
 use Rattle.aig.specs.declared.fold.Folded.the-variants.{Pair, To}
 use Rattle.aig.specs.declared.literal.Literal.{Literal}
 use Rattle.aig.specs.declared.lookup.Found.the-variants.{At, Nothing}
+use Rattle.loader.proofs.AskLaws.{Asked, ask-cases, folded, found, made}
+use Rattle.loader.specs.Build.{Build, Built, askAnd, askGate, askXor, foldedOrNot, foundOrMade, inverted}
+use Rattle.loader.specs.Load.{maxVertices}
 use Rattle.loader_graph.specs.Slices.{Counted, Graph, buildOf, builtOf, countsAfter}
 use Rattle.loader_graph.specs.declared.Counts.{Counts}
 use Rattle.loader_graph.specs.declared.Ended.the-variants.{Folded, Found, Made}
 use Rattle.loader_graph.specs.declared.Ended.{Ended}
-use Rattle.loader.proofs.AskLaws.{Asked, ask-cases, folded, found, made}
-use Rattle.loader.specs.Build.{Build, Built, askAnd, askGate, askXor, foldedOrNot, foundOrMade, inverted}
-use Rattle.loader.specs.Load.{maxVertices}
 use Rattle.netlist.specs.Check.{andsOf}
 use Rattle.netlist.specs.declared.records.Operation.the-variants.{And, Or, Xor}
 use Rattle.netlist.specs.declared.records.Operation.{Operation}
-use Rattle.table.specs.Limits.{maxAnds, maxInputs}
+use Rattle.table.specs.Limits.{maxAnds}
 use lib.ListN.{length, length-set, set, take}
 use lib.Seq.{getD-take, take-suc-set}
 use mathlib.Core.Bool.{false}
 use mathlib.Core.List.{List, [], _++_, _∷_, append-assoc}
-use mathlib.Core.Path.{_≡_, ap, refl, sym, _∙_}
+use mathlib.Core.Path.{_≡_, ap, refl, _∙_}
 use native.Mathlib.Omega.{arith}
 
 -- The words of the vertices so far, and those of one more.

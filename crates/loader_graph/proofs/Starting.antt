@@ -2,11 +2,11 @@
 use Prim.Native.Nat.{_*_, _+_, _<_, _≤_, ℕ}
 use Rattle.aig.proofs.IndexLaws.{clear-starts}
 use Rattle.aig.specs.Lookup.{cleared, firstWord, ownWords, secondWord}
-use Rattle.loader_graph.specs.Slices.{Graph, buildOf}
-use Rattle.loader_graph.specs.declared.Counts.{Counts}
 use Rattle.loader.proofs.PairLaws.{empty-good}
 use Rattle.loader.specs.Build.{emptyBuild}
 use Rattle.loader.specs.Load.{maxVertices}
+use Rattle.loader_graph.specs.Slices.{Graph, buildOf}
+use Rattle.loader_graph.specs.declared.Counts.{Counts}
 use Rattle.table.specs.Limits.{maxInputs}
 use Rattle.text.proofs.DecimalLaws.{written-length}
 use Rattle.text.specs.Decimal.{written}

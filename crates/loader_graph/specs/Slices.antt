@@ -1,12 +1,12 @@
 -- The graph and a file's literals in the lent slices.
 use Prim.Native.Nat.{_*_, _+_, _<_, _≤_, ℕ}
 use Rattle.aig.specs.Lookup.{Indexed}
+use Rattle.loader.specs.Build.{Build, Built, Traced}
+use Rattle.loader.specs.Load.{maxVertices}
 use Rattle.loader_graph.specs.declared.Asked.{Asked}
 use Rattle.loader_graph.specs.declared.Counts.{Counts}
 use Rattle.loader_graph.specs.declared.Ended.the-variants.{Folded, Found, Made}
 use Rattle.loader_graph.specs.declared.Ended.{Ended}
-use Rattle.loader.specs.Build.{Build, Built, Traced}
-use Rattle.loader.specs.Load.{maxVertices}
 use Rattle.table.specs.Limits.{maxAnds, maxInputs}
 use lib.ListN.{length, take}
 use mathlib.Core.List.{List}

@@ -1,8 +1,8 @@
 -- The gate's ANDs, by its operation; no loop.
 -- There is room for as many as the operation stands for.
+use Rattle.loader.specs.Build.{askGate}
 use Rattle.loader_graph.proofs.ask_gate.Statement.{statement}
 use Rattle.loader_graph.proofs.ask_gate.Tie as tie
-use Rattle.loader.specs.Build.{askGate}
 use borrow.Author.Needs.{needs}
 use native.Mathlib.Omega.{arith}
 

@@ -1,0 +1,27 @@
+-- The slices that load is lent: their lengths, and what a refusal leaves in them.
+use Prim.Native.Nat.{ℕ}
+use Rattle.loader.specs.Load.{Room}
+use Rattle.loader.specs.declared.Loaded.the-variants.{Accepted, Refused}
+use Rattle.loader.specs.declared.Loaded.{Loaded}
+use mathlib.Core.List.{List}
+use mathlib.Core.Path.{_≡_}
+
+-- The lengths of the table and the four working slices.
+abbrev pub roomOf : ℕ → ℕ → ℕ → ℕ → ℕ → Room
+roomOf table pairs look literals outputs =
+    record { table = table; pairs = pairs; look = look; literals = literals; outputs = outputs }
+
+-- The four working slices.
+pub record Working : Type 0 where
+  pub pairs : List ℕ
+  pub look : List ℕ
+  pub literals : List ℕ
+  pub outputs : List ℕ
+
+abbrev pub working : List ℕ → List ℕ → List ℕ → List ℕ → Working
+working pairs look literals outputs = record { pairs = pairs; look = look; literals = literals; outputs = outputs }
+
+-- "refusals leaving all of them unchanged, and free are only the working slices"
+abbrev pub Kept : Loaded → Working → Working → Type 0
+Kept (Accepted t) before after = Unit
+Kept (Refused k f n) before after = after ≡ before
