@@ -1,0 +1,69 @@
+// The line of a reply, as bytes.
+use report::Vertex;
+use report::Word;
+use sweep_model::Cause;
+use sweep_model::Reply;
+ghost use Rattle.reply_line.specs.Line.{causeVertex, causeWord, lineFor, roomFor};
+ghost use Rattle.report.specs.Report.{Printed};
+ghost use mathlib.Core.Path.{_≡_};
+
+// Puts the line of a reply on an output at the front of `out` and gives back its length. The setting is that of a Different.
+pub fn write_line(out: &mut [u8], output: u32, reply: Reply, setting: &[u8]) -> usize
+    ensures { λ r. ⌜ Printed (roomFor reply (now (setting .entry))) (lineFor output reply (now (setting .entry))) (now (out .entry)) (now (out .exit)) r ⌝ }
+{
+    match reply {
+        Reply::Equal(counts) => report::write_reply(
+            out,
+            netlist::EDITION,
+            output,
+            Word::Equal,
+            b"",
+            Vertex::None,
+            counts.rows,
+            counts.steps,
+        ),
+        Reply::Different(counts) => report::write_reply(
+            out,
+            netlist::EDITION,
+            output,
+            Word::Different,
+            setting,
+            Vertex::None,
+            counts.rows,
+            counts.steps,
+        ),
+        Reply::Undecided(cause, counts) => report::write_reply(
+            out,
+            netlist::EDITION,
+            output,
+            word_of(cause),
+            b"",
+            vertex_of(cause),
+            counts.rows,
+            counts.steps,
+        ),
+        Reply::Refused(number) => report::write_refused(out, number, 0, 0),
+    }
+}
+
+fn word_of(cause: Cause) -> Word
+    ensures { λ r. ⌜ r ≡ causeWord cause ⌝ }
+{
+    match cause {
+        Cause::Size => Word::Size,
+        Cause::Rows(_) => Word::Rows,
+        Cause::Steps(_) => Word::Steps,
+        Cause::Idle => Word::Idle,
+    }
+}
+
+fn vertex_of(cause: Cause) -> Vertex
+    ensures { λ r. ⌜ r ≡ causeVertex cause ⌝ }
+{
+    match cause {
+        Cause::Size => Vertex::None,
+        Cause::Rows(v) => Vertex::At(v),
+        Cause::Steps(v) => Vertex::At(v),
+        Cause::Idle => Vertex::None,
+    }
+}
