@@ -3,11 +3,11 @@ use Prim.Native.Nat.{_*_, _+_, _/_, _<_, _≤_, suc, zero, ℕ}
 use Rattle.aig.proofs.IndexLaws.{row-holds}
 use Rattle.aig.specs.Lookup.{firstWord, secondWord, withRow}
 use Rattle.bdd.proofs.ChainLaws.{agree-self}
-use Rattle.bdd.proofs.DiagramLaws.{frame-reference}
+use Rattle.bdd.proofs.DiagramLaws.{frame, frame-reference}
 use Rattle.bdd.proofs.MakeLaws.{grown-denote, grown-reference}
 use Rattle.bdd.proofs.OwnerLaws.{OwnerSet, owner-set}
 use Rattle.bdd.proofs.RowsLaws.{length-put}
-use Rattle.bdd.specs.Diagram.{denote, storeOf}
+use Rattle.bdd.specs.Diagram.{Canonical, denote, storeOf}
 use Rattle.bdd.specs.Owners.{withOwner}
 use Rattle.bdd.specs.Rows.{RADIX, highAt, ownerAt, put}
 use Rattle.bdd.specs.Store.{Agree, Store}
@@ -33,6 +33,17 @@ use mathlib.Core.Logic.{_≢_}
 use mathlib.Core.Path.{_∙_, _≡_, ap, refl, sym}
 use native.Mathlib.Decide.{decLe, ℕ-discrete}
 use native.Mathlib.Omega.{arith}
+
+-- A diagram stays one where rows agree up to those in use.
+pub drawing-kept :
+    {t : Task} {functions : List Truth} {rows after : List ℕ} {used v c n : ℕ} → Canonical rows used → Agree rows after used
+    → Drawing t functions rows used v c n → Drawing t functions after used v c n
+drawing-kept {t} {rows = rows} {after = after} {used = used} {c = c} canonical agree g =
+    record {
+      within = frame-reference rows used canonical after agree (g .within);
+      means = frame rows used canonical after agree (t .inputs) c (g .within .stored) ∙ g .means;
+      sized = g .sized;
+    }
 
 -- What is drawn: vertex v, which has no diagram, gets that of a reference to one of the rows, which have grown.
 pub record Draws (t : Task) (functions : List Truth) (w : Words) (rows : List ℕ) (u v reference count : ℕ) : Type 0 where
@@ -114,12 +125,7 @@ module _
 
   -- A diagram of the grown rows is one after the owner is set.
   owned : (x c s : ℕ) → Drawing t functions rows u x c s → Drawing t functions after u x c s
-  owned x c s g =
-      record {
-        within = frame-reference rows u (d .grown .store .canonical) after (own .agree u) (g .within);
-        means = own .denotes (t .inputs) c (g .within .stored) ∙ g .means;
-        sized = g .sized;
-      }
+  owned x c s g = drawing-kept (d .grown .store .canonical) (own .agree u) g
 
   pub carried : (x c s : ℕ) → Drawing t functions (w .rows) (w .used) x c s → Drawing t functions rows u x c s
   carried x c s g =

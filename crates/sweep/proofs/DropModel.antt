@@ -1,7 +1,6 @@
 -- A product dropped, or broken off: its rows are given back, and the words stand for the model's state.
-use Prim.Native.Nat.{_*_, _/_, _<_, ℕ}
-use Rattle.aig.specs.Lookup.{firstWord, secondWord}
-use Rattle.bdd.proofs.DiagramLaws.{frame, frame-reference}
+use Prim.Native.Nat.{_*_, _/_, _<_, _≤_, ℕ}
+use Rattle.aig.specs.Lookup.{firstWord}
 use Rattle.bdd.specs.Diagram.{storeOf}
 use Rattle.bdd.specs.Rows.{ownerAt}
 use Rattle.bdd.specs.Store.{Kept}
@@ -17,9 +16,15 @@ use Rattle.sweep_model.proofs.Stages.{bare-lacks}
 use Rattle.sweep_model.proofs.Steady.{Due, due-within, productOf}
 use Rattle.sweep_model.specs.State.{functionOf, has?, stageOf, withBook, withMark}
 use Rattle.sweep_model.specs.Sweep.{drop, givenBack}
+use Rattle.sweep_model.specs.declared.Cause.{Cause}
+use Rattle.sweep.proofs.DrawModel.{drawing-kept}
 use Rattle.sweep.proofs.LookModel.{has-stage}
-use Rattle.sweep.specs.Represents.{Drawing, Owns, Represents}
+use Rattle.sweep.specs.Ending.{Closed}
+use Rattle.sweep.specs.Inputs.{sheets}
+use Rattle.sweep.specs.Meet.{board}
+use Rattle.sweep.specs.Represents.{Owns, Represents}
 use Rattle.sweep.specs.Words.{Words, posed, stateOf, words}
+use Rattle.sweep.specs.declared.end.End.the-variants.{Undecided}
 use Rattle.sweep.specs.declared.task.Task.{Task}
 use Rattle.truth.proofs.Booleans.{clash}
 use Rattle.truth.specs.Parts.{size}
@@ -65,6 +70,17 @@ module _
       ≡ withMark v 3 (withBook (givenBack (stateOf (t .count) w .book) (bookOf rows u k)) (stateOf (t .count) w))
   broken-state k = rw (same-store, take-set-lt (t .count) (w .marks) v 3 (due-inside rep due)) refl
 
+  pub broken-closed :
+      (k : ℕ) → k ≤ t .steps → (c : Cause)
+      → Closed t functions (board (w .pairs) (sheets (w .diagrams) (w .stages) after (set (w .marks) v 3))) (w .used) k (Undecided c)
+  broken-closed k h c =
+      record {
+        store = r .given-back .store;
+        drawn = λ x l e. drawing-kept (rep .store .canonical) (same-rows .agree) (rep .drawn x l e);
+        refers = tt;
+        counted = h;
+      }
+
   -- Dropped.
   abbrev pub droppedWords : ℕ → Words
   droppedWords k = words (w .pairs) (w .diagrams) (withStage (w .stages) v 4) after (set (w .marks) v 2) (w .used) k
@@ -103,7 +119,7 @@ module _
         diagrams-long = rep .diagrams-long;
         marks-long = rw (length-set (w .marks) v 2) (rep .marks-long);
         rows-within = λ x h. rw (r .long) (rep .rows-within x h);
-        drawn = λ x h e. framed x (rep .drawn x h (had x e));
+        drawn = λ x h e. drawing-kept (rep .store .canonical) (same-rows .agree) (rep .drawn x h (had x e));
         owners =
             record {
               rightly = λ i l h e.
@@ -114,17 +130,6 @@ module _
             };
       }
     where
-      framed : (x : ℕ) → Drawing t functions (w .rows) (w .used) x (firstWord (w .diagrams) x) (secondWord (w .diagrams) x)
-          → Drawing t functions after (w .used) x (firstWord (w .diagrams) x) (secondWord (w .diagrams) x)
-      framed x g =
-          record {
-            within = frame-reference (w .rows) (w .used) (rep .store .canonical) after (same-rows .agree) (g .within);
-            means =
-                frame (w .rows) (w .used) (rep .store .canonical) after (same-rows .agree) (t .inputs) (firstWord (w .diagrams) x) (g .within .stored)
-                ∙ g .means;
-            sized = g .sized;
-          }
-
       moved : (i : ℕ) → Owns (t .count) i (held (w .stages) (w .diagrams) (w .rows)) (ownerAt (w .rows) i)
           → Owns (t .count) i (held (withStage (w .stages) v 4) (w .diagrams) after) (ownerAt (w .rows) i)
       moved i o =

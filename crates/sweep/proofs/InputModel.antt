@@ -14,7 +14,9 @@ use Rattle.sweep_model.specs.State.{functionOf, has?}
 use Rattle.sweep_model.specs.Sweep.{Progress, andThen, ends, giveRow, inputsFrom, on, topPart, undecided}
 use Rattle.sweep_model.specs.declared.Cause.the-variants.{Rows}
 use Rattle.sweep.proofs.DrawModel.{Draws, drawn-represents, drawn-state}
+use Rattle.sweep.proofs.EndModel.{marked-closed, represents-closed}
 use Rattle.sweep.proofs.LookModel.{has-stage}
+use Rattle.sweep.specs.Ending.{verdictOf}
 use Rattle.sweep.specs.Given.{AllGiven, Frame, Framed, GivenTo, ShortAt, givingFrom, stateIn}
 use Rattle.sweep.specs.Inputs.{RowAsked, RowGiven, RowLacked, Sheets, levelOf}
 use Rattle.sweep.specs.Represents.{Represents}
@@ -23,7 +25,7 @@ use Rattle.sweep.specs.declared.task.Task.{Task}
 use Rattle.truth.proofs.Parts.{constants-differ, size-input}
 use Rattle.truth.specs.Parts.{size}
 use Rattle.truth.specs.Truth.{Truth, input, node}
-use lib.ListN.{length}
+use lib.ListN.{length, set}
 use lib.Seq.{take-set-lt}
 use mathlib.Core.List.{List}
 use mathlib.Core.Path.{_∙_, _≡_, ap, ap₂, refl, subst, sym}
@@ -219,10 +221,14 @@ module _ {t : Task} {a₀ : Sheets} {used₀ : ℕ} {a : Sheets} {used v : ℕ} 
       })
 
   pub along-short : {b : Sheets} → v < t .first → RowLacked t v used a b → (x : Frame) → GivenTo t x a₀ used₀ 1 → ShortAt t x a₀ used₀ b v used
-  unfolding andThen
-  along-short h r x g =
-      sym (s .ahead x g) ∙ giving-turn t x a used v h
-      ∙ ap (λ (o : Progress). andThen o (inputsFrom (posed t (x .functions)) (suc v) (t .first - suc v))) (given-short v (s .here x g) (s .from) h r)
+  unfolding andThen verdictOf
+  along-short {b} h r x g =
+      record {
+        reached =
+            sym (s .ahead x g) ∙ giving-turn t x a used v h
+            ∙ ap (λ (o : Progress). andThen o (inputsFrom (posed t (x .functions)) (suc v) (t .first - suc v))) (given-short v (s .here x g) (s .from) h r);
+        closed = rw (r .marked) (marked-closed (set (a .marks) v 3) (represents-closed (s .here x g .represents) tt));
+      }
 
   pub along-ends : t .first ≤ v → (x : Frame) → GivenTo t x a₀ used₀ 1 → AllGiven t x a₀ used₀ a used
   unfolding inputsFrom

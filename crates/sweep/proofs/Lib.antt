@@ -1,5 +1,9 @@
+pub mod BeginModel
+pub mod CauseLaws
 pub mod DrawModel
 pub mod DropModel
+pub mod EndModel
+pub mod GoModel
 pub mod HandLaws
 pub mod InputLaws
 pub mod InputModel
@@ -8,9 +12,13 @@ pub mod LookModel
 pub mod MeetLaws
 pub mod MeetModel
 pub mod MultiplyModel
+pub mod NormaliseModel
 pub mod OpenModel
 pub mod OperandLaws
 pub mod ScanModel
 pub mod SettleModel
+pub mod StartModel
+pub mod SweepModel
+pub mod TurnModel
 pub mod TwinModel
 pub mod VisitModel

@@ -13,7 +13,7 @@ use Rattle.sweep_model.proofs.Rows.{resolve-within}
 use Rattle.sweep_model.specs.Normalise.{resolve}
 use Rattle.sweep_model.specs.State.{State, has?, literalFunction, stageOf}
 use Rattle.sweep_model.specs.Sweep.{different, ends, equal, look, lookAt, on}
-use Rattle.sweep.specs.Look.{Looks, comparedAs, progressOf, referenceOf, seenAt, seenBy}
+use Rattle.sweep.specs.Look.{Looks, SeenRefers, comparedAs, progressOf, referenceOf, seenAt, seenBy}
 use Rattle.sweep.specs.Represents.{Drawing, Represents}
 use Rattle.sweep.specs.Words.{Words, posed, stateOf}
 use Rattle.sweep.specs.declared.look.Seen.the-variants.{Differ, Equal, Inverse, Nothing}
@@ -161,3 +161,29 @@ module _ {t : Task} {functions : List Truth} {entry : List ℕ} {w : Words} (rep
       go false false true ex true ey = both (literal-drawn l left-now ex) (literal-drawn r right-now ey)
       go false false true ex false ey = refl
       go false false false ex y ey = refl
+
+  -- What is seen refers to rows in use.
+  pub look-refers : SeenRefers (w .rows) (w .used) (t .inputs) (seenBy t (w .pairs) (w .diagrams) (w .stages))
+  unfolding seenAt comparedAs
+  look-refers = go (eqb l r) (eqb l (negate r)) (eqb f g) (hasWord (w .stages) (vertexOf l)) refl (hasWord (w .stages) (vertexOf r)) refl
+    where
+      l : ℕ
+      l = resolve (w .pairs) (t .left)
+
+      r : ℕ
+      r = resolve (w .pairs) (t .right)
+
+      f : ℕ
+      f = referenceOf (w .diagrams) l
+
+      g : ℕ
+      g = referenceOf (w .diagrams) r
+
+      go : (a b c x : Bool) → hasWord (w .stages) (vertexOf l) ≡ x → (y : Bool) → hasWord (w .stages) (vertexOf r) ≡ y
+          → SeenRefers (w .rows) (w .used) (t .inputs) (cond a Equal (cond b Inverse (cond (x && y) (cond c Equal (Differ f g)) Nothing)))
+      go true b c x ex y ey = tt
+      go false true c x ex y ey = tt
+      go false false true true ex true ey = tt
+      go false false false true ex true ey = (literal-drawn l left-now ex .within, literal-drawn r right-now ey .within)
+      go false false c true ex false ey = tt
+      go false false c false ex y ey = tt

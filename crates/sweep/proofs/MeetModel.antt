@@ -1,33 +1,27 @@
 -- A vertex met: the words stand for the model's state, without a twin and with one.
-use Prim.Native.Nat.{_%_, _*_, _-_, _/_, _<_, _≤_, max, min, ℕ}
-use Rattle.aig.specs.Literal.{literalOf, vertexOf}
+use Prim.Native.Nat.{_*_, _/_, _<_, _≤_, max, min, ℕ}
+use Rattle.aig.specs.Literal.{literalOf}
 use Rattle.aig.specs.Lookup.{firstWord, secondWord}
-use Rattle.bdd.proofs.DiagramLaws.{canonical, denote-inverse, frame, frame-reference}
-use Rattle.bdd.proofs.ReferenceLaws.{edge-even, edge-row, edge-same, parity}
-use Rattle.bdd.proofs.StoreLaws.{store-frame}
-use Rattle.bdd.specs.Diagram.{denote, edge}
+use Rattle.bdd.proofs.DiagramLaws.{canonical}
+use Rattle.bdd.specs.Diagram.{denote}
 use Rattle.product.specs.Product.{bookOf}
-use Rattle.product_model.specs.Run.{Book, done}
-use Rattle.sweep_graph.proofs.GraphLaws.{graph-kept}
+use Rattle.product_model.specs.Run.{done}
 use Rattle.sweep_graph.proofs.StageLaws.{stages-set}
-use Rattle.sweep_graph.proofs.TakesModel.{normalise-rows, normalise-stages}
 use Rattle.sweep_graph.specs.Graph.{Graph}
 use Rattle.sweep_graph.specs.Stages.{stagesOf, wordStage}
-use Rattle.sweep_graph.specs.Takes.{Held, takesWords}
-use Rattle.sweep_model.proofs.Functions.{function-self}
 use Rattle.sweep_model.proofs.Reachable.{Reachable, merged-reachable, product-reachable}
 use Rattle.sweep_model.proofs.Steady.{Due, productOf}
-use Rattle.sweep_model.specs.Fit.{Downward, Sound}
-use Rattle.sweep_model.specs.Normalise.{merged?, mergedInto, normalise, normaliseFrom}
-use Rattle.sweep_model.specs.State.{Problem, Stage, State, functionOf, literalFunction, withBook, withRows}
+use Rattle.sweep_model.specs.Normalise.{mergedInto, normalise}
+use Rattle.sweep_model.specs.State.{Problem, State, functionOf, withBook, withRows}
 use Rattle.sweep_model.specs.Sweep.{at, meet, none, swept, twinFrom}
 use Rattle.sweep.proofs.DrawModel.{Draws, all-owners, carried, drawn-represents, drawn-state, other-first, other-second, other-stage, own, own-first, own-second}
-use Rattle.sweep.proofs.HandLaws.{Handed, owner-long, takes-handed}
+use Rattle.sweep.proofs.HandLaws.{Handed, owner-long}
 use Rattle.sweep.proofs.LookModel.{has-stage}
 use Rattle.sweep.proofs.MeetLaws.{drawn-room, meet-asks, merge-graph}
+use Rattle.sweep.proofs.NormaliseModel.{Normalises, normalised-represents, normalised-state, sound-graph}
 use Rattle.sweep.proofs.TwinModel.{answered, twin-asked, twin-found, twin-models}
 use Rattle.sweep.specs.Inputs.{Sheets, drawnAt, sheets}
-use Rattle.sweep.specs.Meet.{MeetAsked, MergeAsked, board, handedIn, heldOf, inverse?, joined, mergedBoard, mergedPairs, metBoard, metWith, twinAt}
+use Rattle.sweep.specs.Meet.{MeetAsked, MergeAsked, board, heldOf, inverse?, joined, mergedBoard, metBoard, metWith, twinAt}
 use Rattle.sweep.specs.Represents.{Drawing, Represents}
 use Rattle.sweep.specs.Settle.{boardOf, onBoard}
 use Rattle.sweep.specs.Words.{Words, posed, stateOf}
@@ -35,55 +29,18 @@ use Rattle.sweep.specs.declared.task.Task.{Task}
 use Rattle.sweep.specs.declared.twin.Twin.the-variants.{At, None}
 use Rattle.sweep.specs.declared.twin.Twin.{Twin}
 use Rattle.truth.proofs.Booleans.{iff-equal}
-use Rattle.truth.proofs.Equality.{equal-same, inverse-alike, invert-twice, same-equal}
-use Rattle.truth.proofs.Parts.{size-alike}
+use Rattle.truth.proofs.Equality.{equal-same, same-equal}
 use Rattle.truth.specs.Parts.{size}
-use Rattle.truth.specs.Truth.{Truth, conj, invert, same?}
+use Rattle.truth.specs.Truth.{Truth, same?}
 use borrow.Author.Tests.{eq-eqb, eqb-true}
 use lib.Dec.{eqb, ltb}
 use lib.ListN.{length, length-set, take}
 use lib.Seq.{take-set-lt}
 use mathlib.Core.Bool.{false, not, true}
 use mathlib.Core.List.{List}
-use mathlib.Core.Logic.{⊎-elim}
-use mathlib.Core.Path.{_∙_, _≡_, ap, refl, subst, sym}
+use mathlib.Core.Path.{_∙_, _≡_, ap, refl, sym}
 use native.Mathlib.Decide.{ℕ-discrete}
 use native.Mathlib.Omega.{arith}
-
--- Two states with the same parts.
-state-equal : {a b : State} → a .rows ≡ b .rows → a .stages ≡ b .stages → a .marks ≡ b .marks → a .book ≡ b .book → a ≡ b
-state-equal {a} {b} e f g h =
-    ap (λ (x : List ℕ). record { rows = x; stages = a .stages; marks = a .marks; book = a .book }) e
-    ∙ ap (λ (x : List Stage). record { rows = b .rows; stages = x; marks = a .marks; book = a .book }) f
-    ∙ ap (λ (x : List ℕ). record { rows = b .rows; stages = b .stages; marks = x; book = a .book }) g
-    ∙ ap (λ (x : Book). record { rows = b .rows; stages = b .stages; marks = b .marks; book = x }) h
-
--- A diagram that goes over to the literal that the vertex was merged into.
-goes-over :
-    (t : Task) (functions : List Truth) (rows : List ℕ) (used v x c n : ℕ) → functionOf (posed t functions) v ≡ literalFunction (posed t functions) x
-    → Drawing t functions rows used v c n → Drawing t functions rows used (vertexOf x) (edge c x) n
-goes-over t functions rows used v x c n e d = ⊎-elim even odd (parity x)
-  where
-    f : Truth
-    f = functionOf (posed t functions) (vertexOf x)
-
-    even : x % 2 ≡ 0 → Drawing t functions rows used (vertexOf x) (edge c x) n
-    even i =
-        let same : functionOf (posed t functions) v ≡ f = rw i at e in
-        record {
-          within = rw (edge-even c x i) (d .within);
-          means = rw (edge-even c x i) (d .means ∙ same);
-          sized = d .sized ∙ ap size same;
-        }
-
-    odd : x % 2 ≡ 1 → Drawing t functions rows used (vertexOf x) (edge c x) n
-    odd i =
-        let other : functionOf (posed t functions) v ≡ invert f = rw i at e in
-        record {
-          within = record { stored = rw (edge-row c x) (d .within .stored); fits = rw (edge-row c x) (d .within .fits) };
-          means = rw (edge-same c x 1 i) (denote-inverse rows (t .inputs) c ∙ ap invert (d .means ∙ other) ∙ invert-twice f);
-          sized = d .sized ∙ size-alike (functionOf (posed t functions) v) f (inverse-alike (functionOf (posed t functions) v) f other);
-        }
 
 module _
     {t : Task} {functions : List Truth} {entry : List ℕ} {w : Words} (rep : Represents t functions entry w) {rows : List ℕ} {u v reference count : ℕ}
@@ -93,13 +50,7 @@ module _
 
   -- The working graph.
   pub graph-now : Graph (t .first) (t .count) (w .pairs)
-  graph-now =
-      record {
-        downward = subst (λ (x : ℕ). Downward (t .first) x (w .pairs)) (rep .count) (rep .reachable .steady .sound .downward);
-        some-first = rep .fit .well-formed .some-first;
-        first-within = omega (arith, rep .count, rep .fit .well-formed .first-within);
-        few = omega (arith, rep .few);
-      }
+  graph-now = sound-graph (rep .fit .well-formed) (rep .count) (rep .few) (rep .reachable .steady .sound)
 
   -- What meeting needs is there.
   pub meet-asked : (look : List ℕ) → 2 * t .count ≤ length look → MeetAsked t v reference count look (boardOf w rows)
@@ -184,12 +135,6 @@ module _
               (canonical rows u (d .grown .store .canonical) (t .inputs) reference r (d .drawing .within) (g .within)
               (d .drawing .means ∙ same-equal (functionOf p v) (functionOf p x) e ∙ sym (g .means)))
 
-      abbrev pairs : List ℕ
-      pairs = mergedPairs t v x (w .pairs) (drawn .diagrams)
-
-      abbrev last : Held
-      last = handedIn t pairs (heldOf drawn)
-
       -- The state that the model normalises.
       abbrev joint : State
       joint = swept v (withRows (mergedInto (w .pairs) (max v x) (literalOf (min v x) (not (same? (functionOf p v) (functionOf p x))))) before)
@@ -204,92 +149,44 @@ module _
       merge-asked : MergeAsked t v x (w .pairs) (w .pairs) (heldOf drawn)
       merge-asked = meet-asks (meet-asked (w .pairs) long-look) refl x o
 
-      joint-graph : Graph (t .first) (t .count) (joint .rows)
-      joint-graph = rw (← joint-rows) (merge-graph merge-asked (inverse? (drawn .diagrams) v x) refl)
-
       joint-stages : joint .stages ≡ stagesOf (drawn .stages) (t .count)
       unfolding swept wordStage
       joint-stages = sym (stages-set (w .stages) (t .count) v 1 (d .within) (rep .stages-long))
 
-      met-rows : pairs ≡ meet p v before (at x) .rows
+      joint-marks : take (t .count) (drawn .marks) ≡ joint .marks
+      unfolding swept
+      joint-marks = take-set-lt (t .count) (w .marks) v 1 (d .within)
+
+      joint-book : bookOf rows u k ≡ joint .book
+      unfolding swept
+      joint-book = refl
+
+      -- The sweep reaches the state to which it is normalised.
+      joint-reached : Reachable p entry (normalise (t .first) joint)
       unfolding meet
-      met-rows =
-          ap (λ (l : List ℕ). normaliseFrom l (t .first) (t .count - t .first)) joint-rows
-          ∙ sym (normalise-rows joint (heldOf drawn) joint-graph (merge-asked .room) joint-stages)
+      joint-reached = merged-reachable (rep .fit) due (rep .reachable) (bookOf rows u k) ran small x (twin-models rep d ∙ ap answered o)
 
-      met-stages : stagesOf (last .stages) (t .count) ≡ meet p v before (at x) .stages
-      unfolding meet
-      met-stages =
-          ap
-          (λ (l : List ℕ). stagesOf
-          (takesWords (normaliseFrom l (t .first) (t .count - t .first)) (t .first) (t .count - t .first) (heldOf drawn) .stages) (t .count)) joint-rows
-          ∙ sym (normalise-stages joint (heldOf drawn) joint-graph (merge-asked .room) joint-stages)
-
-      met-marks : take (t .count) (drawn .marks) ≡ meet p v before (at x) .marks
-      unfolding meet swept normalise
-      met-marks = take-set-lt (t .count) (w .marks) v 1 (d .within)
-
-      met-book : bookOf rows u k ≡ meet p v before (at x) .book
-      unfolding meet swept normalise
-      met-book = refl
-
-      -- The sweep reaches the state.
-      met-reached : Reachable p entry (meet p v before (at x))
-      met-reached = merged-reachable (rep .fit) due (rep .reachable) (bookOf rows u k) ran small x (twin-models rep d ∙ ap answered o)
-
-      met-graph : Graph (t .first) (t .count) pairs
-      met-graph = graph-kept (merge-graph merge-asked (inverse? (drawn .diagrams) v x) refl)
-
-      met-sound : Sound p pairs
-      met-sound = rw met-rows (met-reached .steady .sound)
-
-      -- A merged vertex has the function of the literal that it was merged into.
-      met-function : (y : ℕ) → t .first ≤ y → y < t .count → merged? pairs y ≡ true → functionOf p y ≡ literalFunction p (firstWord pairs y)
-      met-function y from inside m =
-          met-sound .means y from (omega (arith, rep .count))
-          ∙ ap (λ (z : ℕ). conj (literalFunction p (firstWord pairs y)) (literalFunction p z)) (sym (eqb-true (firstWord pairs y) (secondWord pairs y) m))
-          ∙ function-self p (rep .fit .well-formed) (firstWord pairs y)
-
-      met-handed : Handed t functions rows u last
-      met-handed =
-          takes-handed t functions rows u (d .grown .store .canonical) (rep .fit .well-formed .constant) met-graph
-          (λ y c m from inside e. goes-over t functions rows u y (firstWord pairs y) c m (met-function y from inside e))
-          (t .count - t .first) (t .first) (heldOf drawn) (omega arith) (omega (arith, graph-now .first-within)) drawn-handed
+      joint-normalises : Normalises t functions entry (joined (w .pairs) v x (inverse? (drawn .diagrams) v x)) rows u (heldOf drawn) joint
+      joint-normalises =
+          record {
+            fit = rep .fit;
+            count = rep .count;
+            canonical = d .grown .store .canonical;
+            handed = drawn-handed;
+            graph = merge-graph merge-asked (inverse? (drawn .diagrams) v x) refl;
+            same-rows = joint-rows;
+            same-stages = joint-stages;
+            reached = joint-reached;
+          }
 
       pub merged-state : stateOf (t .count) (onBoard (mergedBoard t v x (board (w .pairs) drawn)) u k) ≡ meet p v before (at x)
-      merged-state =
-          state-equal met-rows met-stages met-marks
-          (ap (λ (l : List Truth). record { store = l; steps = k })
-          (store-frame rows (last .rows) u (d .grown .store .canonical) (met-handed .agree u) u (omega arith))
-          ∙ met-book)
+      unfolding meet
+      merged-state = normalised-state joint-normalises (drawn .marks) k joint-marks joint-book
 
       pub merged-represents : Represents t functions entry (onBoard (mergedBoard t v x (board (w .pairs) drawn)) u k)
       merged-represents =
-          record {
-            fit = rep .fit;
-            reachable = rw merged-state met-reached;
-            count = rep .count;
-            few = rep .few;
-            narrow = rep .narrow;
-            short = rep .short;
-            modest = rep .modest;
-            store = met-handed .store;
-            stages-long = met-handed .room .stages-long;
-            diagrams-long = met-handed .room .diagrams-long;
-            marks-long = rw (length-set (w .marks) v 1) (rep .marks-long);
-            rows-within = met-handed .room .rows-within;
-            drawn = λ y h e. framed y (met-handed .drawn y h e);
-            owners = met-handed .owners;
-          }
-        where
-          framed : (y : ℕ) → Drawing t functions rows u y (firstWord (last .diagrams) y) (secondWord (last .diagrams) y)
-              → Drawing t functions (last .rows) u y (firstWord (last .diagrams) y) (secondWord (last .diagrams) y)
-          framed y g =
-              record {
-                within = frame-reference rows u (d .grown .store .canonical) (last .rows) (met-handed .agree u) (g .within);
-                means = frame rows u (d .grown .store .canonical) (last .rows) (met-handed .agree u) (t .inputs) (firstWord (last .diagrams) y) (g .within .stored) ∙ g .means;
-                sized = g .sized;
-              }
+          normalised-represents joint-normalises (drawn .marks) k joint-marks joint-book (rep .narrow) (rep .short) (rep .modest)
+          (rw (length-set (w .marks) v 1) (rep .marks-long))
 
     -- Either way.
     pub met-state :

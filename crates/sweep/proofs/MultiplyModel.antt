@@ -10,18 +10,21 @@ use Rattle.product.specs.declared.Product.{Product}
 use Rattle.product_model.specs.Run.{run}
 use Rattle.sweep_model.proofs.Stages.{open-has}
 use Rattle.sweep_model.proofs.Steady.{due-within, productOf}
-use Rattle.sweep_model.specs.State.{functionOf, open?, stageOf, withBook}
-use Rattle.sweep_model.specs.Sweep.{conclude, drop, ends, look, meet, multiply, twinFrom, undecided}
+use Rattle.sweep_model.specs.State.{functionOf, open?, stageOf, withBook, withMark}
+use Rattle.sweep_model.specs.Sweep.{conclude, drop, ends, givenBack, look, meet, multiply, twinFrom, undecided}
 use Rattle.sweep_model.specs.declared.Cause.the-variants.{Rows, Steps}
-use Rattle.sweep.proofs.DropModel.{broken-state, due-inside}
-use Rattle.sweep.proofs.LookModel.{LiteralDrawn, has-stage, literal-drawn, look-models, looks}
+use Rattle.sweep_model.specs.declared.Cause.{Cause}
+use Rattle.sweep.proofs.DropModel.{Returns, broken-closed, broken-state, due-inside}
+use Rattle.sweep.proofs.LookModel.{LiteralDrawn, has-stage, literal-drawn, look-models, look-refers, looks}
+use Rattle.sweep.specs.Ending.{Ends, verdictOf}
 use Rattle.sweep.specs.Inputs.{sheets}
-use Rattle.sweep.specs.Look.{Looks, progressOf, seenBy}
+use Rattle.sweep.specs.Look.{Looks, SeenRefers, progressOf, seenBy}
 use Rattle.sweep.specs.Meet.{Board, board}
-use Rattle.sweep.specs.Multiply.{DueOn, Looked, Scene, multiplied, stateOn}
+use Rattle.sweep.specs.Multiply.{DueOn, Looked, Scene, multiplied}
 use Rattle.sweep.specs.Operands.{ProductAsked, firstOperand, secondOperand}
-use Rattle.sweep.specs.Settle.{Ended, Setting, Settled, onBoard, settledState}
+use Rattle.sweep.specs.Settle.{Ended, Setting, Settled, onBoard, settledState, stateOn}
 use Rattle.sweep.specs.Words.{posed}
+use Rattle.sweep.specs.declared.end.End.the-variants.{Undecided}
 use Rattle.sweep.specs.declared.look.Seen.{Seen}
 use Rattle.sweep.specs.declared.task.Task.{Task}
 use Rattle.truth.proofs.Booleans.{cond-ap}
@@ -144,11 +147,27 @@ module _ {t : Task} {x : Scene} {v used steps : ℕ} {b : Board} (d : DueOn t x 
                 concludes ∙ ap (look (posed t (x .functions))) (settled .reached) ∙ sym (look-models (settled .represents))
                 ∙ ap (progressOf (after .sheets .rows) (t .inputs) (stateOn t after more k)) (sym e);
             represents = settled .represents;
+            refers = subst (SeenRefers (after .sheets .rows) more (t .inputs)) (sym e) (look-refers (settled .represents));
           }
 
   -- What breaking off needs is there.
   short-back : (rows : List ℕ) (r : Product) → Ran rows r → (Store rows (t .rows) (usedBy r) × (used ≤ usedBy r)) × (v < length (b .sheets .marks))
   short-back rows r m = ((m .grown .store, m .grown .more), omega (arith, inside, d .represents .marks-long))
+
+  -- The sweep ends where it was broken off.
+  broken-ends :
+      {rows last : List ℕ} {u : ℕ} → Returns t (onBoard b used steps) rows last u → (k : ℕ) → k ≤ t .steps → (c : Cause)
+      → multiplied t x v used steps b
+      ≡ ends (undecided c)
+      (withMark v 3 (withBook (givenBack (stateOn t b used steps .book) (bookOf rows u k)) (stateOn t b used steps)))
+      → Ends t (x .functions) (multiplied t x v used steps b)
+      (board (b .pairs) (sheets (b .sheets .diagrams) (b .sheets .stages) last (set (b .sheets .marks) v 3))) used k (Undecided c)
+  unfolding verdictOf
+  broken-ends r k h c e =
+      record {
+        reached = e ∙ ap (ends (undecided c)) (sym (broken-state (d .represents) r (d .due) k));
+        closed = broken-closed (d .represents) r (d .due) k h c;
+      }
 
   -- Short of rows.
   module _ (rows : List ℕ) {r : Product} {u k : ℕ} (told : r ≡ ShortOfRows u k) (gave : Gave rows r) where
@@ -157,15 +176,14 @@ module _ {t : Task} {x : Scene} {v used steps : ℕ} {b : Board} (d : DueOn t x 
 
     pub multiply-lacks-rows :
         {last marks : List ℕ} → GivenBack rows last (t .rows) u used → length last ≡ length (b .sheets .rows) → marks ≡ set (b .sheets .marks) v 3
-        → multiplied t x v used steps b
-        ≡ ends (undecided (Rows v)) (stateOn t (board (b .pairs) (sheets (b .sheets .diagrams) (b .sheets .stages) last marks)) used k)
+        → Ends t (x .functions) (multiplied t x v used steps b) (board (b .pairs) (sheets (b .sheets .diagrams) (b .sheets .stages) last marks)) used k
+        (Undecided (Rows v))
     unfolding multiply conclude
     multiply-lacks-rows g long em =
         let m : Ran rows (ShortOfRows u k) = subst (Gave rows) told gave in
-        ap (conclude (posed t (x .functions)) v (stateOn t b used steps)) (product-is rows (ShortOfRows u k) m)
-        ∙ rw em
-        (ap (ends (undecided (Rows v)))
-        (sym (broken-state (d .represents) (record { grown = m .grown; given-back = g; long = long }) (d .due) k)))
+        rw em
+        (broken-ends (record { grown = m .grown; given-back = g; long = long }) k (m .under) (Rows v)
+        (ap (conclude (posed t (x .functions)) v (stateOn t b used steps)) (product-is rows (ShortOfRows u k) m)))
 
   -- Short of steps.
   module _ (rows : List ℕ) {r : Product} {u k : ℕ} (told : r ≡ ShortOfSteps u k) (gave : Gave rows r) where
@@ -174,12 +192,11 @@ module _ {t : Task} {x : Scene} {v used steps : ℕ} {b : Board} (d : DueOn t x 
 
     pub multiply-lacks-steps :
         {last marks : List ℕ} → GivenBack rows last (t .rows) u used → length last ≡ length (b .sheets .rows) → marks ≡ set (b .sheets .marks) v 3
-        → multiplied t x v used steps b
-        ≡ ends (undecided (Steps v)) (stateOn t (board (b .pairs) (sheets (b .sheets .diagrams) (b .sheets .stages) last marks)) used k)
+        → Ends t (x .functions) (multiplied t x v used steps b) (board (b .pairs) (sheets (b .sheets .diagrams) (b .sheets .stages) last marks)) used k
+        (Undecided (Steps v))
     unfolding multiply conclude
     multiply-lacks-steps g long em =
         let m : Ran rows (ShortOfSteps u k) = subst (Gave rows) told gave in
-        ap (conclude (posed t (x .functions)) v (stateOn t b used steps)) (product-is rows (ShortOfSteps u k) m)
-        ∙ rw em
-        (ap (ends (undecided (Steps v)))
-        (sym (broken-state (d .represents) (record { grown = m .grown; given-back = g; long = long }) (d .due) k)))
+        rw em
+        (broken-ends (record { grown = m .grown; given-back = g; long = long }) k (m .under) (Steps v)
+        (ap (conclude (posed t (x .functions)) v (stateOn t b used steps)) (product-is rows (ShortOfSteps u k) m)))

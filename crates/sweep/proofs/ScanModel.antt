@@ -6,8 +6,8 @@ use Rattle.sweep.specs.Multiply.{Scene}
 use Rattle.sweep.specs.Scan.{Scans, scannedFrom}
 use Rattle.sweep.specs.Visit.{ScanIn, ScanOn, Visits, visited}
 use Rattle.sweep.specs.Words.{posed}
+use Rattle.sweep.specs.declared.end.End.{End}
 use Rattle.sweep.specs.declared.task.Task.{Task}
-use Rattle.sweep.specs.declared.visit.End.{End}
 use Rattle.sweep.specs.declared.visit.Going.the-variants.{Ended, On}
 use Rattle.sweep.specs.declared.visit.Going.{Going}
 use lib.ListN.{length}
@@ -83,8 +83,13 @@ module _
       → Scans t from used₀ steps₀ b₀ after (Ended e u k)
   unfolding andThen
   scan-stops after h e visits = λ x o.
-      sym (s .ahead x o) ∙ scan-turn t x v used steps b h
-      ∙ ap (λ (p : Progress). andThen p (scanFrom (posed t (x .functions)) (suc v) (t .count - suc v))) (subst (Visits t v used steps b after) e visits x (s .here x o))
+      let ended = subst (Visits t v used steps b after) e visits x (s .here x o) in
+      record {
+        reached =
+            sym (s .ahead x o) ∙ scan-turn t x v used steps b h
+            ∙ ap (λ (p : Progress). andThen p (scanFrom (posed t (x .functions)) (suc v) (t .count - suc v))) (ended .reached);
+        closed = ended .closed;
+      }
 
   pub scan-ends : t .count ≤ v → Scans t from used₀ steps₀ b₀ b (On used steps)
   unfolding scanFrom

@@ -9,15 +9,23 @@ use Rattle.sweep_model.proofs.Steady.{Scanning, Steady, scanning-passed}
 use Rattle.sweep_model.specs.Fit.{Downward, Fit, vertexCount}
 use Rattle.sweep_model.specs.State.{Problem, State, bare?, open?, stageOf}
 use Rattle.sweep_model.specs.Sweep.{Verdict, on, ready?, visit}
+use Rattle.sweep_model.specs.declared.Cause.the-variants.{Rows, Steps}
+use Rattle.sweep.proofs.EndModel.{looked-ends}
+use Rattle.sweep.specs.Ending.{Ends}
 use Rattle.sweep.specs.Look.{progressOf}
 use Rattle.sweep.specs.Meet.{Board}
-use Rattle.sweep.specs.Multiply.{DueOn, Looked, Scene, Takes, multiplied, stateOn}
-use Rattle.sweep.specs.Visit.{ReadyAsked, ScanOn, Visits, WentOn, goingOf, openWord, readyAt, verdictOf, visited}
+use Rattle.sweep.specs.Multiply.{DueOn, Looked, Scene, Takes, multiplied}
+use Rattle.sweep.specs.Settle.{stateOn}
+use Rattle.sweep.specs.Visit.{ReadyAsked, ScanOn, Visits, WentOn, goingBy, goingOf, openWord, readyAt, visited}
 use Rattle.sweep.specs.Words.{posed}
+use Rattle.sweep.specs.declared.end.End.the-variants.{Undecided}
+use Rattle.sweep.specs.declared.end.End.{End}
 use Rattle.sweep.specs.declared.look.Seen.the-variants as seen
+use Rattle.sweep.specs.declared.look.Seen.{Seen}
 use Rattle.sweep.specs.declared.multiply.Step.the-variants as step
 use Rattle.sweep.specs.declared.multiply.Step.{Step}
 use Rattle.sweep.specs.declared.task.Task.{Task}
+use Rattle.sweep.specs.declared.visit.Going.the-variants.{Ended}
 use Rattle.sweep.specs.declared.visit.Going.{Going}
 use Rattle.truth.proofs.Booleans.{and-left, and-right}
 use borrow.Author.Tests.{le-leb, leb-true, lt-leb}
@@ -144,17 +152,36 @@ module _ (t : Task) (v : ℕ) (pairs stages : List ℕ) where
 
 module _ (t : Task) (v used steps : ℕ) (b : Board) (inside : v < t .count) {r : Bool} (er : r ≡ readyAt t v (b .pairs) (b .sheets .stages)) where
   -- A vertex that is ready has its product taken.
+  visit-product : r ≡ true → {x : Scene} → ScanOn t x v used steps b → visited t x v used steps b ≡ multiplied t x v used steps b
+  visit-product e h = visit-ready h inside (sym er ∙ e)
+
+  -- What was seen ends the sweep.
+  visit-seen :
+      r ≡ true → (after : Board) (s : Seen) (u k : ℕ) {i : End} → goingBy s u k ≡ Ended i u k → Takes t v used steps b after (step.Looked s u k)
+      → (x : Scene) → ScanOn t x v used steps b → Ends t (x .functions) (visited t x v used steps b) after u k i
+  visit-seen e after s u k i took x h =
+      let l = took x (ready-due h inside er e) in
+      looked-ends s (l .represents) (visit-product e h ∙ l .reached) (l .refers) i
+
+  -- A limit ends it.
+  visit-short :
+      r ≡ true → (after : Board) (u k : ℕ) (i : End) → ((x : Scene) → DueOn t x v used steps b → Ends t (x .functions) (multiplied t x v used steps b) after u k i)
+      → (x : Scene) → ScanOn t x v used steps b → Ends t (x .functions) (visited t x v used steps b) after u k i
+  visit-short e after u k i took x h =
+      let l = took x (ready-due h inside er e) in
+      record { reached = visit-product e h ∙ l .reached; closed = l .closed }
+
   visit-takes : r ≡ true → (after : Board) (o : Step) → Takes t v used steps b after o → Visits t v used steps b after (goingOf v o)
-  unfolding progressOf verdictOf
-  visit-takes e after (step.Looked seen.Equal u k) took = λ x h. visit-ready h inside (sym er ∙ e) ∙ took x (ready-due h inside er e) .reached
-  visit-takes e after (step.Looked seen.Inverse u k) took = λ x h. visit-ready h inside (sym er ∙ e) ∙ took x (ready-due h inside er e) .reached
-  visit-takes e after (step.Looked (seen.Differ f g) u k) took = λ x h. visit-ready h inside (sym er ∙ e) ∙ took x (ready-due h inside er e) .reached
+  unfolding progressOf
+  visit-takes e after (step.Looked seen.Equal u k) took = visit-seen e after seen.Equal u k refl took
+  visit-takes e after (step.Looked seen.Inverse u k) took = visit-seen e after seen.Inverse u k refl took
+  visit-takes e after (step.Looked (seen.Differ f g) u k) took = visit-seen e after (seen.Differ f g) u k refl took
   visit-takes e after (step.Looked seen.Nothing u k) took = λ x h.
       let l = took x (ready-due h inside er e) in
-      let i = visit-ready h inside (sym er ∙ e) ∙ l .reached in
+      let i = visit-product e h ∙ l .reached in
       record { reached = i; here = record { represents = l .represents; scanning = scan-next h inside i } }
-  visit-takes e after (step.Rows u k) took = λ x h. visit-ready h inside (sym er ∙ e) ∙ took x (ready-due h inside er e)
-  visit-takes e after (step.Steps u k) took = λ x h. visit-ready h inside (sym er ∙ e) ∙ took x (ready-due h inside er e)
+  visit-takes e after (step.Rows u k) took = visit-short e after u k (Undecided (Rows v)) took
+  visit-takes e after (step.Steps u k) took = visit-short e after u k (Undecided (Steps v)) took
 
   pub visit-went :
       r ≡ true → (after : Board) (o : Step) {g : Going} → g ≡ goingOf v o → Takes t v used steps b after o → Visits t v used steps b after g

@@ -2,11 +2,14 @@
 use Prim.Native.Nat.{_-_, ℕ}
 use Rattle.sweep_model.proofs.Steady.{Giving}
 use Rattle.sweep_model.specs.State.{State}
-use Rattle.sweep_model.specs.Sweep.{Progress, ends, inputsFrom, on, undecided}
+use Rattle.sweep_model.specs.Sweep.{Progress, inputsFrom, on}
 use Rattle.sweep_model.specs.declared.Cause.the-variants.{Rows}
+use Rattle.sweep.specs.Ending.{Ends}
 use Rattle.sweep.specs.Inputs.{Sheets}
+use Rattle.sweep.specs.Meet.{board}
 use Rattle.sweep.specs.Represents.{Represents}
 use Rattle.sweep.specs.Words.{Words, posed, stateOf, words}
+use Rattle.sweep.specs.declared.end.End.the-variants.{Undecided}
 use Rattle.sweep.specs.declared.inputs.Inputs.the-variants.{All, Short}
 use Rattle.sweep.specs.declared.inputs.Inputs.{Inputs}
 use Rattle.sweep.specs.declared.task.Task.{Task}
@@ -48,7 +51,7 @@ pub record AllGiven (t : Task) (x : Frame) (a : Sheets) (used : ℕ) (b : Sheets
 
 -- "Rows with the vertex at which the row limit was passed".
 abbrev pub ShortAt : Task → Frame → Sheets → ℕ → Sheets → ℕ → ℕ → Type 0
-ShortAt t x a used b v more = givingFrom t x a used 1 ≡ ends (undecided (Rows v)) (stateIn t x b more)
+ShortAt t x a used b v more = Ends t (x .functions) (givingFrom t x a used 1) (board (x .pairs) b) more (x .steps) (Undecided (Rows v))
 
 abbrev pub GivesRows : Task → Sheets → ℕ → Sheets → Inputs → Type 0
 GivesRows t a used b (All more) = (x : Frame) → GivenTo t x a used 1 → AllGiven t x a used b more

@@ -2,7 +2,7 @@
 use Prim.Native.Nat.{_*_, _+_, _<_, ℕ}
 use Rattle.aig.specs.Literal.{negate, vertexOf}
 use Rattle.aig.specs.Lookup.{firstWord}
-use Rattle.bdd.specs.Diagram.{denote, edge}
+use Rattle.bdd.specs.Diagram.{Reference, denote, edge}
 use Rattle.sweep_graph.specs.Takes.{hasWord}
 use Rattle.sweep_model.specs.Normalise.{resolve}
 use Rattle.sweep_model.specs.State.{State}
@@ -48,3 +48,10 @@ progressOf rows inputs s Equal = ends equal s
 progressOf rows inputs s Inverse = ends (different (replicate inputs false)) s
 progressOf rows inputs s (Differ f g) = ends (different (firstDifference (denote rows inputs f) (denote rows inputs g))) s
 progressOf rows inputs s Nothing = on s
+
+-- The references seen are those of rows in use.
+abbrev pub SeenRefers : List ℕ → ℕ → ℕ → Seen → Type 0
+SeenRefers rows used inputs Equal = Unit {0}
+SeenRefers rows used inputs Inverse = Unit {0}
+SeenRefers rows used inputs (Differ f g) = Reference rows used inputs f × Reference rows used inputs g
+SeenRefers rows used inputs Nothing = Unit {0}

@@ -1,14 +1,15 @@
 -- A vertex has its product taken, as in the model.
 use Prim.Native.Nat.{ℕ}
 use Rattle.sweep_model.proofs.Steady.{Due}
-use Rattle.sweep_model.specs.State.{State}
-use Rattle.sweep_model.specs.Sweep.{Progress, ends, multiply, undecided}
+use Rattle.sweep_model.specs.Sweep.{Progress, multiply}
 use Rattle.sweep_model.specs.declared.Cause.the-variants.{Rows, Steps}
-use Rattle.sweep.specs.Look.{progressOf}
+use Rattle.sweep.specs.Ending.{Ends}
+use Rattle.sweep.specs.Look.{SeenRefers, progressOf}
 use Rattle.sweep.specs.Meet.{Board}
 use Rattle.sweep.specs.Represents.{Represents}
-use Rattle.sweep.specs.Settle.{onBoard}
-use Rattle.sweep.specs.Words.{posed, stateOf}
+use Rattle.sweep.specs.Settle.{onBoard, stateOn}
+use Rattle.sweep.specs.Words.{posed}
+use Rattle.sweep.specs.declared.end.End.the-variants.{Undecided}
 use Rattle.sweep.specs.declared.look.Seen.{Seen}
 use Rattle.sweep.specs.declared.multiply.Step.the-variants as step
 use Rattle.sweep.specs.declared.multiply.Step.{Step}
@@ -22,9 +23,6 @@ pub record Scene : Type 0 where
   pub functions : List Truth
   pub entry : List ℕ
   pub turns : ℕ
-
-abbrev pub stateOn : Task → Board → ℕ → ℕ → State
-stateOn t b used steps = stateOf (t .count) (onBoard b used steps)
 
 -- Vertex v is to have its product taken.
 pub record DueOn (t : Task) (x : Scene) (v used steps : ℕ) (b : Board) : Type 0 where
@@ -43,10 +41,11 @@ multiplied t x v used steps b = multiply (posed t (x .functions)) v (stateOn t b
 pub record Looked (t : Task) (x : Scene) (v used steps : ℕ) (b after : Board) (seen : Seen) (more taken : ℕ) : Type 0 where
   pub reached : multiplied t x v used steps b ≡ progressOf (after .sheets .rows) (t .inputs) (stateOn t after more taken) seen
   pub represents : Represents t (x .functions) (x .entry) (onBoard after more taken)
+  pub refers : SeenRefers (after .sheets .rows) more (t .inputs) seen
 
 abbrev pub Takes : Task → ℕ → ℕ → ℕ → Board → Board → Step → Type 0
 Takes t v used steps b after (step.Looked seen more taken) = (x : Scene) → DueOn t x v used steps b → Looked t x v used steps b after seen more taken
 Takes t v used steps b after (step.Rows more taken) =
-    (x : Scene) → DueOn t x v used steps b → multiplied t x v used steps b ≡ ends (undecided (Rows v)) (stateOn t after more taken)
+    (x : Scene) → DueOn t x v used steps b → Ends t (x .functions) (multiplied t x v used steps b) after more taken (Undecided (Rows v))
 Takes t v used steps b after (step.Steps more taken) =
-    (x : Scene) → DueOn t x v used steps b → multiplied t x v used steps b ≡ ends (undecided (Steps v)) (stateOn t after more taken)
+    (x : Scene) → DueOn t x v used steps b → Ends t (x .functions) (multiplied t x v used steps b) after more taken (Undecided (Steps v))

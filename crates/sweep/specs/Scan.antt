@@ -1,9 +1,11 @@
 -- A scan, as in the model.
 use Prim.Native.Nat.{_-_, ℕ}
-use Rattle.sweep_model.specs.Sweep.{Progress, ends, on, scanFrom}
+use Rattle.sweep_model.specs.Sweep.{Progress, on, scanFrom}
+use Rattle.sweep.specs.Ending.{Ends}
 use Rattle.sweep.specs.Meet.{Board}
-use Rattle.sweep.specs.Multiply.{Scene, stateOn}
-use Rattle.sweep.specs.Visit.{ScanOn, verdictOf}
+use Rattle.sweep.specs.Multiply.{Scene}
+use Rattle.sweep.specs.Settle.{stateOn}
+use Rattle.sweep.specs.Visit.{ScanOn}
 use Rattle.sweep.specs.Words.{posed}
 use Rattle.sweep.specs.declared.task.Task.{Task}
 use Rattle.sweep.specs.declared.visit.Going.the-variants.{Ended, On}
@@ -22,5 +24,4 @@ pub record ScannedAll (t : Task) (x : Scene) (from used steps : ℕ) (b after : 
 abbrev pub Scans : Task → ℕ → ℕ → ℕ → Board → Board → Going → Type 0
 Scans t from used steps b after (On more taken) = (x : Scene) → ScanOn t x from used steps b → ScannedAll t x from used steps b after more taken
 Scans t from used steps b after (Ended e more taken) =
-    (x : Scene) → ScanOn t x from used steps b
-    → scannedFrom t x from used steps b ≡ ends (verdictOf (after .sheets .rows) (t .inputs) e) (stateOn t after more taken)
+    (x : Scene) → ScanOn t x from used steps b → Ends t (x .functions) (scannedFrom t x from used steps b) after more taken e

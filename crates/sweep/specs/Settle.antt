@@ -20,9 +20,12 @@ use mathlib.Core.Bool.{cond}
 use mathlib.Core.List.{List}
 use mathlib.Core.Path.{_≡_}
 
--- The words of a board, and the board of words with other rows.
+-- The words of a board and the state that they stand for, and the board of words with other rows.
 abbrev pub onBoard : Board → ℕ → ℕ → Words
 onBoard b used steps = words (b .pairs) (b .sheets .diagrams) (b .sheets .stages) (b .sheets .rows) (b .sheets .marks) used steps
+
+abbrev pub stateOn : Task → Board → ℕ → ℕ → State
+stateOn t b used steps = stateOf (t .count) (onBoard b used steps)
 
 abbrev pub boardOf : Words → List ℕ → Board
 boardOf w rows = board (w .pairs) (sheets (w .diagrams) (w .stages) rows (w .marks))

@@ -2,29 +2,28 @@
 use Prim.Native.Nat.{_*_, _+_, _<_, suc, ℕ}
 use Rattle.aig.specs.Literal.{vertexOf}
 use Rattle.aig.specs.Lookup.{firstWord, secondWord}
-use Rattle.bdd.specs.Diagram.{denote}
 use Rattle.sweep_graph.specs.Stages.{wordStage}
 use Rattle.sweep_model.proofs.Steady.{Scanning}
 use Rattle.sweep_model.specs.State.{bare?, open?}
-use Rattle.sweep_model.specs.Sweep.{Progress, Verdict, different, ends, equal, on, undecided, visit}
-use Rattle.sweep_model.specs.declared.Cause.the-variants as cause
+use Rattle.sweep_model.specs.Sweep.{Progress, on, visit}
+use Rattle.sweep_model.specs.declared.Cause.the-variants.{Rows, Steps}
+use Rattle.sweep.specs.Ending.{Ends}
 use Rattle.sweep.specs.Meet.{Board}
-use Rattle.sweep.specs.Multiply.{Scene, stateOn}
+use Rattle.sweep.specs.Multiply.{Scene}
 use Rattle.sweep.specs.Represents.{Represents}
-use Rattle.sweep.specs.Settle.{onBoard}
+use Rattle.sweep.specs.Settle.{onBoard, stateOn}
 use Rattle.sweep.specs.Words.{posed}
+use Rattle.sweep.specs.declared.end.End.the-variants.{Differ, Equal, Inverse, Undecided}
 use Rattle.sweep.specs.declared.look.Seen.the-variants as seen
+use Rattle.sweep.specs.declared.look.Seen.{Seen}
 use Rattle.sweep.specs.declared.multiply.Step.the-variants as step
 use Rattle.sweep.specs.declared.multiply.Step.{Step}
 use Rattle.sweep.specs.declared.task.Task.{Task}
-use Rattle.sweep.specs.declared.visit.End.the-variants.{Differ, Equal, Inverse, Rows, Steps}
-use Rattle.sweep.specs.declared.visit.End.{End}
 use Rattle.sweep.specs.declared.visit.Going.the-variants.{Ended, On}
 use Rattle.sweep.specs.declared.visit.Going.{Going}
-use Rattle.truth.specs.Settings.{firstDifference}
 use lib.Dec.{leb}
-use lib.ListN.{length, replicate}
-use mathlib.Core.Bool.{Bool, _&&_, false}
+use lib.ListN.{length}
+use mathlib.Core.Bool.{Bool, _&&_}
 use mathlib.Core.List.{List}
 use mathlib.Core.Path.{_≡_}
 
@@ -43,22 +42,17 @@ pub record ReadyAsked (v : ℕ) (pairs stages : List ℕ) : Type 0 where
   pub first-stage : 2 * vertexOf (firstWord pairs v) < length stages
   pub second-stage : 2 * vertexOf (secondWord pairs v) < length stages
 
--- How the sweep goes on after the product of vertex v.
-abbrev pub goingOf : ℕ → Step → Going
-goingOf v (step.Looked seen.Equal u k) = Ended Equal u k
-goingOf v (step.Looked seen.Inverse u k) = Ended Inverse u k
-goingOf v (step.Looked (seen.Differ f g) u k) = Ended (Differ f g) u k
-goingOf v (step.Looked seen.Nothing u k) = On u k
-goingOf v (step.Rows u k) = Ended (Rows v) u k
-goingOf v (step.Steps u k) = Ended (Steps v) u k
+-- How the sweep goes on after what was seen, and after the product of vertex v.
+abbrev pub goingBy : Seen → ℕ → ℕ → Going
+goingBy seen.Equal u k = Ended Equal u k
+goingBy seen.Inverse u k = Ended Inverse u k
+goingBy (seen.Differ f g) u k = Ended (Differ f g) u k
+goingBy seen.Nothing u k = On u k
 
--- The verdict that an end stands for, with these rows, of some inputs.
-unfoldable pub verdictOf : List ℕ → ℕ → End → Verdict
-verdictOf rows inputs Equal = equal
-verdictOf rows inputs Inverse = different (replicate inputs false)
-verdictOf rows inputs (Differ f g) = different (firstDifference (denote rows inputs f) (denote rows inputs g))
-verdictOf rows inputs (Rows v) = undecided (cause.Rows v)
-verdictOf rows inputs (Steps v) = undecided (cause.Steps v)
+abbrev pub goingOf : ℕ → Step → Going
+goingOf v (step.Looked seen u k) = goingBy seen u k
+goingOf v (step.Rows u k) = Ended (Undecided (Rows v)) u k
+goingOf v (step.Steps u k) = Ended (Undecided (Steps v)) u k
 
 -- The scan has come to vertex v.
 pub record ScanOn (t : Task) (x : Scene) (v used steps : ℕ) (b : Board) : Type 0 where
@@ -81,5 +75,4 @@ pub record WentOn (t : Task) (x : Scene) (v used steps : ℕ) (b after : Board) 
 abbrev pub Visits : Task → ℕ → ℕ → ℕ → Board → Board → Going → Type 0
 Visits t v used steps b after (On more taken) = (x : Scene) → ScanOn t x v used steps b → WentOn t x v used steps b after more taken
 Visits t v used steps b after (Ended e more taken) =
-    (x : Scene) → ScanOn t x v used steps b
-    → visited t x v used steps b ≡ ends (verdictOf (after .sheets .rows) (t .inputs) e) (stateOn t after more taken)
+    (x : Scene) → ScanOn t x v used steps b → Ends t (x .functions) (visited t x v used steps b) after more taken e

@@ -1,6 +1,8 @@
 // The sweep's code on the working graph: it knows no table header and no file.
+pub mod cause;
 pub mod draw;
 pub mod drop;
+pub mod end;
 pub mod inputs;
 pub mod look;
 pub mod meet;
@@ -9,6 +11,96 @@ pub mod multiply;
 pub mod operands;
 pub mod scan;
 pub mod settle;
+pub mod start;
 pub mod task;
+pub mod turn;
 pub mod twin;
 pub mod visit;
+
+use crate::cause::cause;
+use crate::end::End;
+use crate::start::start;
+use crate::task::Task;
+use crate::turn::go;
+use crate::visit::Going;
+ghost use Prim.Native.Nat.{_*_, _≤_};
+ghost use Rattle.sweep.specs.Inputs.{sheets};
+ghost use Rattle.sweep.specs.Meet.{board};
+ghost use Rattle.sweep.specs.Start.{SweepAsked};
+ghost use Rattle.sweep.specs.Sweep.{Rests, Sweeps};
+ghost use Rattle.sweep.specs.Turn.{RestIn};
+ghost use lib.ListN.{length};
+
+// How a sweep ended, the rows used and the steps taken.
+pub struct Ended {
+    pub end: End,
+    pub used: usize,
+    pub steps: usize,
+}
+
+// The turns, and where they come to rest the cause.
+fn finish(
+    pairs: &mut [u32],
+    places: &mut [u32],
+    diagrams: &mut [u32],
+    stages: &mut [u32],
+    rows: &mut [u32],
+    marks: &mut [u8],
+    task: Task,
+    used: usize,
+    steps: usize,
+) -> Ended
+    requires rest { ⌜ RestIn task used steps (board (now pairs) (sheets (now diagrams) (now stages) (now rows) (now marks))) ⌝ }
+    requires long { ⌜ 2 * task .count ≤ length (now places) ⌝ }
+    ensures { λ r. ⌜ Rests task used steps (board (now (pairs .entry)) (sheets (now (diagrams .entry)) (now (stages .entry)) (now (rows .entry)) (now (marks .entry)))) (board (now (pairs .exit)) (sheets (now (diagrams .exit)) (now (stages .exit)) (now (rows .exit)) (now (marks .exit)))) r ⌝ }
+{
+    let going = go(
+        pairs,
+        places,
+        diagrams,
+        stages,
+        rows,
+        marks,
+        task,
+        used,
+        steps,
+    );
+    match going {
+        Going::On { used, steps } => Ended {
+            end: End::Undecided(cause(&stages[..], task.count)),
+            used,
+            steps,
+        },
+        Going::Ended { end, used, steps } => Ended { end, used, steps },
+    }
+}
+
+// The sweep of a working graph: pairs hold its rows, the other slices are worked in.
+pub fn sweep(
+    pairs: &mut [u32],
+    places: &mut [u32],
+    diagrams: &mut [u32],
+    stages: &mut [u32],
+    rows: &mut [u32],
+    marks: &mut [u8],
+    task: Task,
+) -> Ended
+    requires { ⌜ SweepAsked task (now places) (board (now pairs) (sheets (now diagrams) (now stages) (now rows) (now marks))) ⌝ }
+    ensures { λ r. ⌜ Sweeps task (board (now (pairs .entry)) (sheets (now (diagrams .entry)) (now (stages .entry)) (now (rows .entry)) (now (marks .entry)))) (board (now (pairs .exit)) (sheets (now (diagrams .exit)) (now (stages .exit)) (now (rows .exit)) (now (marks .exit)))) r ⌝ }
+{
+    let started = start(pairs, places, diagrams, stages, rows, marks, task);
+    match started {
+        Going::On { used, steps } => finish(
+            pairs,
+            places,
+            diagrams,
+            stages,
+            rows,
+            marks,
+            task,
+            used,
+            steps,
+        ),
+        Going::Ended { end, used, steps } => Ended { end, used, steps },
+    }
+}

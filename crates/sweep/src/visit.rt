@@ -1,4 +1,5 @@
 // The scan's visit of a vertex.
+use crate::end::End;
 use crate::look::Seen;
 use crate::multiply::Step;
 use crate::multiply::multiply;
@@ -8,22 +9,14 @@ use sweep_graph::stage::is_bare;
 use sweep_graph::stage::is_open;
 use sweep_graph::words::first_word;
 use sweep_graph::words::second_word;
+use sweep_model::Cause;
 ghost use Prim.Native.Nat.{_*_, _<_, _≤_};
 ghost use Rattle.aig.specs.Literal.{vertexOf};
 ghost use Rattle.sweep.specs.Inputs.{sheets};
 ghost use Rattle.sweep.specs.Meet.{board};
-ghost use Rattle.sweep.specs.Visit.{ReadyAsked, ScanIn, Visits, goingOf, openWord, readyAt};
+ghost use Rattle.sweep.specs.Visit.{ReadyAsked, ScanIn, Visits, goingBy, goingOf, openWord, readyAt};
 ghost use lib.ListN.{length};
 ghost use mathlib.Core.Path.{_≡_};
-
-// How a sweep ends before none waits.
-pub enum End {
-    Equal,
-    Inverse,
-    Differ(usize, usize),
-    Rows(u32),
-    Steps(u32),
-}
 
 // The sweep goes on or ends, with the rows then used and the steps taken.
 pub enum Going {
@@ -54,36 +47,43 @@ fn is_ready(pairs: &[u32], stages: &[u32], task: Task, v: u32) -> bool
     false
 }
 
+// How a sweep goes on after what was seen.
+pub fn after_look(seen: Seen, used: usize, steps: usize) -> Going
+    ensures { λ r. ⌜ r ≡ goingBy seen used steps ⌝ }
+{
+    match seen {
+        Seen::Equal => Going::Ended {
+            end: End::Equal,
+            used,
+            steps,
+        },
+        Seen::Inverse => Going::Ended {
+            end: End::Inverse,
+            used,
+            steps,
+        },
+        Seen::Differ(f, g) => Going::Ended {
+            end: End::Differ(f, g),
+            used,
+            steps,
+        },
+        Seen::Nothing => Going::On { used, steps },
+    }
+}
+
 // How a sweep goes on after the product of vertex v.
 fn after_product(step: Step, v: u32) -> Going
     ensures { λ r. ⌜ r ≡ goingOf v step ⌝ }
 {
     match step {
-        Step::Looked { seen, used, steps } => match seen {
-            Seen::Equal => Going::Ended {
-                end: End::Equal,
-                used,
-                steps,
-            },
-            Seen::Inverse => Going::Ended {
-                end: End::Inverse,
-                used,
-                steps,
-            },
-            Seen::Differ(f, g) => Going::Ended {
-                end: End::Differ(f, g),
-                used,
-                steps,
-            },
-            Seen::Nothing => Going::On { used, steps },
-        },
+        Step::Looked { seen, used, steps } => after_look(seen, used, steps),
         Step::Rows { used, steps } => Going::Ended {
-            end: End::Rows(v),
+            end: End::Undecided(Cause::Rows(v)),
             used,
             steps,
         },
         Step::Steps { used, steps } => Going::Ended {
-            end: End::Steps(v),
+            end: End::Undecided(Cause::Steps(v)),
             used,
             steps,
         },

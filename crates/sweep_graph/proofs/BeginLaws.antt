@@ -15,12 +15,12 @@ use mathlib.Core.Path.{_≡_, _∙_, ap, sym}
 use native.Mathlib.Omega.{arith}
 
 -- A cleared word is 0.
-cleared-word : (words : List ℕ) (n i : ℕ) → i < n → getD (cleared words n) i 0 ≡ 0
+pub cleared-word : (words : List ℕ) (n i : ℕ) → i < n → getD (cleared words n) i 0 ≡ 0
 cleared-word words n i h =
     List·getD-append (replicate n 0) (drop n words) 0 i (rw (length-replicate {A = ℕ} n 0) h) ∙ getD-replicate n i 0 0 h
 
 -- Clearing keeps the number of words.
-cleared-length : (words : List ℕ) (n : ℕ) → n ≤ length words → length (cleared words n) ≡ length words
+pub cleared-length : (words : List ℕ) (n : ℕ) → n ≤ length words → length (cleared words n) ≡ length words
 cleared-length words n h = simp (length-append, length-replicate, length-drop) (omega arith)
 
 -- Cleared words are bare stages.

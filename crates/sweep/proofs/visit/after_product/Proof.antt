@@ -1,4 +1,4 @@
--- What was seen decides; no loop.
+-- The product's answer decides; no loop.
 -- One case for each answer.
 use Rattle.sweep.proofs.visit.after_product.Statement.{statement}
 use Rattle.sweep.proofs.visit.after_product.Tie as tie
@@ -8,17 +8,8 @@ use mathlib.Core.Path.{refl}
 enum-known-step : tie.Need-enum-known-step
 enum-known-step c = search needs
 
-enum-told : tie.Need-enum-told
-enum-told c = search needs
-
-enum-told-2 : tie.Need-enum-told-2
-enum-told-2 c = search needs
-
-enum-known-seen : tie.Need-enum-known-seen
-enum-known-seen c = search needs
-
-enum-told-3 : tie.Need-enum-told-3
-enum-told-3 c = search needs
+after-look-requires : tie.Need-after-look-requires
+after-look-requires c κs = search needs
 
 enum-known-step-2 : tie.Need-enum-known-step-2
 enum-known-step-2 c = search needs
@@ -27,37 +18,22 @@ enum-known-step-3 : tie.Need-enum-known-step-3
 enum-known-step-3 c = search needs
 
 returns : tie.Need-returns
-returns c = rw (c .before .before .before .step .given .1, c .enum-told .given .1) refl
+returns c = rw (c .before .before .step .given .1) (c .after-look .ensures)
 
 returns-2 : tie.Need-returns-2
-returns-2 c = rw (c .before .before .before .step .given .1, c .enum-told2 .given .1) refl
+returns-2 c = rw (c .before .step2 .given .1) refl
 
 returns-3 : tie.Need-returns-3
-returns-3 c = rw (c .before .before .before .before .step .given .1, c .before .seen .given .1) refl
-
-returns-4 : tie.Need-returns-4
-returns-4 c = rw (c .before .before .before .step .given .1, c .enum-told3 .given .1) refl
-
-returns-5 : tie.Need-returns-5
-returns-5 c = rw (c .before .step2 .given .1) refl
-
-returns-6 : tie.Need-returns-6
-returns-6 c = rw (c .before .step3 .given .1) refl
+returns-3 c = rw (c .before .step3 .given .1) refl
 
 pub after-product-spec : {M : Type 1} → statement M
 after-product-spec =
     tie.close
     (tie.spec
     enum-known-step
-    enum-told
-    enum-told-2
-    enum-known-seen
-    enum-told-3
+    after-look-requires
     enum-known-step-2
     enum-known-step-3
     returns
     returns-2
-    returns-3
-    returns-4
-    returns-5
-    returns-6)
+    returns-3)

@@ -1,0 +1,73 @@
+-- Whether every input got its row decides; no loop.
+-- One law for each answer, for all functions and entry rows.
+use Rattle.sweep.proofs.BeginModel.{given-goes, given-looks, given-short, giving-framed}
+use Rattle.sweep.proofs.start.give_inputs.Statement.{statement}
+use Rattle.sweep.proofs.start.give_inputs.Tie as tie
+use Rattle.sweep.specs.Inputs.{sheets}
+use Rattle.sweep.specs.Meet.{board}
+use borrow.Author.Needs.{needs}
+
+give-rows-requires : tie.Need-give-rows-requires
+give-rows-requires c κs = giving-framed (c .before .before .before .before .before .before .before .before .before .pre)
+
+enum-known-inputs : tie.Need-enum-known-inputs
+enum-known-inputs c = search needs
+
+look-requires : tie.Need-look-requires
+look-requires c κs = given-looks (c .before .before .before .before .before .before .before .before .before .before .before .before .before .before .before .before .before .before .before .before .before .before .before .args .task) (board (c .before .before .before .before .before .before .before .before .before .before .before .before .before .before .before .before .before .before .before .before .before .before .before .args .pairs .now) (sheets (c .before .before .before .before .before .before .before .before .before .before .before .before .before .before .before .before .before .before .before .before .before .before .before .args .diagrams .now) (c .before .before .before .before .before .before .before .before .before .before .before .before .before .before .before .before .before .before .before .before .before .before .before .args .stages .now) (c .before .before .before .before .before .before .before .before .before .before .before .before .before .before .before .before .before .before .before .before .before .before .before .args .rows .now) (c .before .before .before .before .before .before .before .before .before .before .before .before .before .before .before .before .before .before .before .before .before .before .before .args .marks .now))) (sheets (c .before .before .before .before .before .before .before .before .before .before .before .before .before .give-rows .last .0) (c .before .before .before .before .before .before .before .before .before .before .before .before .before .give-rows .last .1 .0) (c .before .before .before .before .before .before .before .before .before .before .before .before .before .give-rows .last .1 .1 .0) (c .before .before .before .before .before .before .before .before .before .before .before .before .before .give-rows .last .1 .1 .1 .0)) (c .before .before .before .inputs .given .0 .0) (c .before .before .before .inputs .given .1) (c .before .before .before .before .before .before .before .before .before .before .before .before .before .give-rows .ensures) (c .before .before .before .before .before .before .before .before .before .before .before .before .before .before .before .before .before .before .before .before .before .before .before .pre)
+
+after-look-requires : tie.Need-after-look-requires
+after-look-requires c κs = search needs
+
+enum-known-inputs-2 : tie.Need-enum-known-inputs-2
+enum-known-inputs-2 c = search needs
+
+same-length : tie.Need-same-length
+same-length c = search needs
+
+same-length-2 : tie.Need-same-length-2
+same-length-2 c = search needs
+
+same-length-3 : tie.Need-same-length-3
+same-length-3 c = search needs
+
+same-length-4 : tie.Need-same-length-4
+same-length-4 c = search needs
+
+returns : tie.Need-returns
+returns c = given-goes (c .before .before .before .before .before .before .before .before .before .before .before .before .before .before .before .before .before .before .before .before .before .before .before .before .before .args .task) (board (c .before .before .before .before .before .before .before .before .before .before .before .before .before .before .before .before .before .before .before .before .before .before .before .before .before .args .pairs .now) (sheets (c .before .before .before .before .before .before .before .before .before .before .before .before .before .before .before .before .before .before .before .before .before .before .before .before .before .args .diagrams .now) (c .before .before .before .before .before .before .before .before .before .before .before .before .before .before .before .before .before .before .before .before .before .before .before .before .before .args .stages .now) (c .before .before .before .before .before .before .before .before .before .before .before .before .before .before .before .before .before .before .before .before .before .before .before .before .before .args .rows .now) (c .before .before .before .before .before .before .before .before .before .before .before .before .before .before .before .before .before .before .before .before .before .before .before .before .before .args .marks .now))) (sheets (c .before .before .before .before .before .before .before .before .before .before .before .before .before .before .before .give-rows .last .0) (c .before .before .before .before .before .before .before .before .before .before .before .before .before .before .before .give-rows .last .1 .0) (c .before .before .before .before .before .before .before .before .before .before .before .before .before .before .before .give-rows .last .1 .1 .0) (c .before .before .before .before .before .before .before .before .before .before .before .before .before .before .before .give-rows .last .1 .1 .1 .0)) (c .before .before .before .before .before .inputs .given .0 .0) (c .before .before .before .before .before .inputs .given .1) (c .before .before .before .before .before .before .before .before .before .before .before .before .before .before .before .give-rows .ensures) (c .before .look .result) (c .before .look .ensures) (c .after-look .ensures)
+
+same-length-5 : tie.Need-same-length-5
+same-length-5 c = search needs
+
+same-length-6 : tie.Need-same-length-6
+same-length-6 c = search needs
+
+same-length-7 : tie.Need-same-length-7
+same-length-7 c = search needs
+
+same-length-8 : tie.Need-same-length-8
+same-length-8 c = search needs
+
+returns-2 : tie.Need-returns-2
+returns-2 c = given-short (c .before .before .before .before .before .before .before .before .before .before .before .before .before .before .before .before .before .before .before .before .before .args .task) (board (c .before .before .before .before .before .before .before .before .before .before .before .before .before .before .before .before .before .before .before .before .before .args .pairs .now) (sheets (c .before .before .before .before .before .before .before .before .before .before .before .before .before .before .before .before .before .before .before .before .before .args .diagrams .now) (c .before .before .before .before .before .before .before .before .before .before .before .before .before .before .before .before .before .before .before .before .before .args .stages .now) (c .before .before .before .before .before .before .before .before .before .before .before .before .before .before .before .before .before .before .before .before .before .args .rows .now) (c .before .before .before .before .before .before .before .before .before .before .before .before .before .before .before .before .before .before .before .before .before .args .marks .now))) (sheets (c .before .before .before .before .before .before .before .before .before .before .before .give-rows .last .0) (c .before .before .before .before .before .before .before .before .before .before .before .give-rows .last .1 .0) (c .before .before .before .before .before .before .before .before .before .before .before .give-rows .last .1 .1 .0) (c .before .before .before .before .before .before .before .before .before .before .before .give-rows .last .1 .1 .1 .0)) (c .before .inputs2 .given .0 .0) (c .before .inputs2 .given .0 .1 .0) (c .before .inputs2 .given .1) (c .before .before .before .before .before .before .before .before .before .before .before .give-rows .ensures)
+
+pub give-inputs-spec : {M : Type 1} → statement M
+give-inputs-spec =
+    tie.close
+    (tie.spec
+    give-rows-requires
+    enum-known-inputs
+    look-requires
+    after-look-requires
+    enum-known-inputs-2
+    same-length
+    same-length-2
+    same-length-3
+    same-length-4
+    returns
+    same-length-5
+    same-length-6
+    same-length-7
+    same-length-8
+    returns-2)
