@@ -3,5 +3,7 @@ pub mod GraphLaws
 pub mod LeftLaws
 pub mod CopyLaws
 pub mod SettingLaws
+pub mod RunLaws
+pub mod CompareLaws
 pub mod Since
 pub mod ReplyLaws

@@ -1,2 +1,4 @@
 pub mod Code
 pub mod Compare
+pub mod Passed
+pub mod Work

@@ -1,11 +1,69 @@
 // compare: the output of a table on both sides.
 mod copy;
 mod refusal;
+mod reply;
 mod setting;
+mod task;
+mod work;
+
+use crate::refusal::Lengths;
+use sweep_model::Reply;
+ghost use Rattle.comparer.specs.Code.{Unchanged, given, left};
+ghost use Rattle.comparer.specs.Compare.{compared, refusalOf};
+ghost use mathlib.Core.Path.{_≡_};
 
 // The size limit, the row limit and the step limit. The last is wider, so that one that is too large can be given and refused.
 pub struct Limits {
     pub size: u32,
     pub rows: u32,
     pub steps: u64,
+}
+
+// Compares output number `output` of the two sides of a table. The reply is one of:
+// - Refused, with the number of the first refusal that applies, 10 to 15: then no slice is changed;
+// - Equal: the output has one function on both sides;
+// - Different: it has two, and the front of the setting is the first setting on which they differ, a byte 48 or 49 for each input;
+// - Undecided, with the cause: a limit was passed.
+// Where it is not refused, the reply carries the rows used and the steps taken, the table holds the rows and the outputs that the sweep left, and
+// the front of the marks has a byte for each vertex. The five slices after the limits are worked in: only their lengths matter.
+pub fn compare(
+    table: &mut [u32],
+    output: u32,
+    limits: Limits,
+    pairs: &mut [u32],
+    look: &mut [u32],
+    diagrams: &mut [u32],
+    stages: &mut [u32],
+    rows: &mut [u32],
+    marks: &mut [u8],
+    setting: &mut [u8],
+) -> Reply
+    ensures { λ r. ⌜ left r (now (table .exit)) (now (marks .exit)) (now (setting .exit)) ≡ compared (given (now (table .entry)) output limits (now (pairs .entry)) (now (look .entry)) (now (diagrams .entry)) (now (stages .entry)) (now (rows .entry)) (now (marks .entry)) (now (setting .entry))) ⌝ }
+    ensures { λ _. ⌜ ((refusalOf (given (now (table .entry)) output limits (now (pairs .entry)) (now (look .entry)) (now (diagrams .entry)) (now (stages .entry)) (now (rows .entry)) (now (marks .entry)) (now (setting .entry))) ≡ 0 → ⊥) → Unchanged (now (pairs .entry)) (now (pairs .exit)) (now (look .entry)) (now (look .exit)) (now (diagrams .entry)) (now (diagrams .exit)) (now (stages .entry)) (now (stages .exit)) (now (rows .entry)) (now (rows .exit))) ⌝ }
+{
+    let lengths = Lengths {
+        pairs: pairs.len(),
+        look: look.len(),
+        diagrams: diagrams.len(),
+        stages: stages.len(),
+        rows: rows.len(),
+        marks: marks.len(),
+        setting: setting.len(),
+    };
+    let number = refusal::first_refusal(&table[..], output, limits, lengths);
+    if number != 0 {
+        return Reply::Refused(number);
+    }
+    let ended = work::run(
+        &table[..],
+        output,
+        limits,
+        pairs,
+        look,
+        diagrams,
+        stages,
+        rows,
+        marks,
+    );
+    work::finish(table, &pairs[..], &rows[..], limits.rows, ended, setting)
 }

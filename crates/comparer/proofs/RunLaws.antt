@@ -1,0 +1,127 @@
+-- What the sweep is asked where no refusal applies, and what its end says of the comparison.
+use mathlib.Core.List.{List, _++_}
+use mathlib.Core.Path.{_∙_, _≡_, ap, refl, sym}
+use Prim.Native.Nat.{_*_, _<_, _≤_, ℕ}
+use native.Mathlib.Omega.{arith}
+use lib.ListN.{drop, length, length-append, take}
+use lib.Seq.{length-take-le, take-all, take-at}
+use Rattle.bdd.proofs.StoreLaws.{store-length}
+use Rattle.comparer.proofs.GraphLaws.{count-vertices, fits, length-graph}
+use Rattle.comparer.specs.Code.{given, limitsOf, roomOfLists}
+use Rattle.comparer.specs.Compare.{answerTo, graphWords, overFront, problemOf}
+use Rattle.comparer.specs.Passed.{Enough, LimitsWithin}
+use Rattle.comparer.specs.Work.{Posed, Ran}
+use Rattle.comparer.specs.declared.Limits.{Limits}
+use Rattle.sweep.specs.Ending.{verdictOf}
+use Rattle.sweep.specs.Inputs.{sheets}
+use Rattle.sweep.specs.Meet.{Board, board}
+use Rattle.sweep.specs.Start.{Poses, SweepAsked}
+use Rattle.sweep.specs.Sweep.{Answers, Sweeps}
+use Rattle.sweep.specs.declared.Ended.{Ended}
+use Rattle.sweep.specs.declared.task.Task.{Task}
+use Rattle.sweep_model.proofs.Kept.{sweep-steady}
+use Rattle.sweep_model.specs.Fit.{Fit}
+use Rattle.sweep_model.specs.Sweep.{Answer, sweep}
+use Rattle.table.specs.Accepted.{Accepted}
+use Rattle.table.specs.Table.{functionsOf, graphOf, outputsOf, verticesOf}
+use Rattle.truth.specs.Truth.{Truth}
+
+-- A table and limits that pass, the task, and the pairs with the table's rows copied to their front.
+module _ (table : List ℕ) (output : ℕ) (limits : Limits) (accepted : Accepted table) (known : output < outputsOf table)
+    (within : LimitsWithin (limitsOf limits)) (t : Task) (task : Posed table output limits t) (old lent : List ℕ) (copied : lent ≡ overFront (graphWords table) old) where
+  -- The functions of the table's vertices.
+  abbrev functions : List Truth
+  functions = functionsOf (graphOf table)
+
+  -- The words lent are the table's rows.
+  entry-words : take (2 * t .count) lent ≡ graphWords table
+  entry-words = rw (task .count, copied) (take-at (graphWords table) _ (2 * verticesOf table) (length-graph table (accepted .formed .whole)))
+
+  -- There are enough.
+  pub lent-long : 2 * t .count ≤ length lent
+  lent-long =
+      rw copied
+      (omega (arith, task .count, length-append (graphWords table) (drop (length (graphWords table)) old), length-graph table (accepted .formed .whole)))
+
+  -- The table gives the sweep what it is started on.
+  table-fits : Fit (problemOf table output (limitsOf limits)) (graphWords table)
+  table-fits = fits table output (limitsOf limits) accepted known
+
+  -- They are the rows of a graph whose vertices have these functions.
+  poses : Poses t functions (take (2 * t .count) lent)
+  unfolding problemOf
+  poses = record { fit = rw (entry-words, task .problem) table-fits; count = count-vertices table output (limitsOf limits) ∙ sym (task .count) }
+
+  -- The other slices, long enough.
+  module _ (pairs look diagrams stages rows marks : List ℕ)
+      (room : Enough (verticesOf table) (limits .rows) (roomOfLists pairs look diagrams stages rows) (length marks)) where
+    -- As many marks are lent as there are vertices.
+    pub lent-marks : length (take (t .count) marks) ≡ t .count
+    lent-marks = length-take-le (t .count) marks (omega (arith, task .count, room .marked))
+
+    -- What the sweep is lent.
+    abbrev pub lentBoard : Board
+    lentBoard = board (take (2 * t .count) lent) (sheets diagrams stages rows (take (t .count) marks))
+
+    -- The sweep can be asked.
+    pub asked : SweepAsked t look lentBoard
+    asked =
+        record {
+          functions = functions;
+          poses = poses;
+          few = omega (arith, task .count, accepted .formed .inputs, accepted .formed .made);
+          narrow = omega (arith, task .inputs, accepted .formed .inputs);
+          modest = omega (arith, task .size, within .size .bounded);
+          most = omega (arith, task .rows, within .rows .bounded);
+          short = omega (arith, task .steps, within .steps .bounded);
+          places-long = omega (arith, task .count, room .look);
+          diagrams-long = omega (arith, task .count, room .diagrams);
+          stages-long = omega (arith, task .count, room .stages);
+          rows-long = omega (arith, task .rows, room .diagram-rows);
+          marks-long = omega (arith, lent-marks);
+        }
+
+    -- The sweep has ended.
+    module _ (setting : List ℕ) (after : Board) (e : Ended) (sweeps : Sweeps t lentBoard after e)
+        (kept : length (after .sheets .marks) ≡ length (take (t .count) marks)) where
+      -- The model's answer.
+      abbrev answer : Answer
+      answer = sweep (problemOf table output (limitsOf limits)) (graphWords table)
+
+      -- It is that of the end and of what the slices hold.
+      answers : Answers t functions answer after e
+      answers = rw (task .problem, entry-words) at (sweeps functions poses)
+
+      -- The rows that it leaves are the pairs,
+      pairs-left : answer .left .rows ≡ after .pairs
+      pairs-left = ap (λ (a : Answer). a .left .rows) (answers .answer)
+
+      -- as many as were lent;
+      pairs-long : length (after .pairs) ≡ 2 * t .count
+      pairs-long =
+          ap length (sym pairs-left)
+          ∙ sweep-steady table-fits .moved .long
+          ∙ length-graph table (accepted .formed .whole)
+          ∙ ap (λ (n : ℕ). 2 * n) (sym (task .count))
+
+      -- the marks are those lent.
+      marks-left : answer .left .marks ≡ after .sheets .marks
+      marks-left = ap (λ (a : Answer). a .left .marks) (answers .answer) ∙ take-all (t .count) (after .sheets .marks) (omega (arith, kept, lent-marks))
+
+      -- What the end says of the comparison.
+      pub ran : Ran (given table output limits pairs look diagrams stages rows marks setting) (after .pairs ++ drop (2 * t .count) lent) (after .sheets .rows)
+          (after .sheets .marks ++ drop (t .count) marks) e
+      unfolding answerTo
+      ran =
+          record {
+            verdict = ap (λ (a : Answer). a .verdict) (answers .answer) ∙ ap (λ (n : ℕ). verdictOf (after .sheets .rows) n (e .end)) (task .inputs);
+            rows-left = pairs-left ∙ sym (rw (← task .count) (take-at (after .pairs) _ (2 * t .count) pairs-long));
+            long = omega (arith, length-append (after .pairs) (drop (2 * t .count) lent), pairs-long, task .count);
+            marks-left = rw (marks-left, kept, lent-marks) refl;
+            rows-used = ap (λ (a : Answer). length (a .left .book .store)) (answers .answer) ∙ store-length (after .sheets .rows) (e .used);
+            steps-taken = ap (λ (a : Answer). a .left .book .steps) (answers .answer);
+            store = rw (task .rows) at (answers .closed .store);
+            refers = rw (task .inputs) at (answers .closed .refers);
+            within = omega (arith, answers .closed .store .room .used, task .rows, within .rows .bounded);
+            counted = omega (arith, answers .closed .counted, task .steps, within .steps .bounded);
+          }

@@ -1,0 +1,27 @@
+// What the sweep is asked.
+use crate::Limits;
+use sweep::task::Task;
+ghost use Prim.Native.Nat.{_<_};
+ghost use Rattle.comparer.specs.Work.{Posed};
+ghost use Rattle.table.specs.Accepted.{WellFormed};
+ghost use Rattle.table.specs.Table.{outputsOf};
+
+// The two literals of an output of a table, with its vertices and the limits.
+pub fn task_of(table: &[u32], output: u32, limits: Limits) -> Task
+    requires { ⌜ WellFormed (now table) ⌝ }
+    requires { ⌜ output < outputsOf (now table) ⌝ }
+    ensures { λ r. ⌜ Posed (now (table .entry)) output limits r ⌝ }
+{
+    let left = table::output_literal(table, 1, output as usize).0;
+    let right = table::output_literal(table, 2, output as usize).0;
+    Task {
+        first: 1 + table[0],
+        count: 1 + table[0] + table[1],
+        inputs: table[0] as usize,
+        left,
+        right,
+        size: limits.size as usize,
+        rows: limits.rows as usize,
+        steps: limits.steps as usize,
+    }
+}

@@ -1,0 +1,77 @@
+// A comparison that is not refused.
+use crate::Limits;
+use crate::copy::copy_in;
+use crate::copy::copy_out;
+use crate::reply::reply_of;
+use crate::reply::write_setting;
+use crate::task::task_of;
+use sweep::Ended;
+use sweep::sweep;
+use sweep_model::Reply;
+ghost use Prim.Native.Nat.{_*_, _<_, ℕ};
+ghost use Rattle.comparer.specs.Code.{given, limitsOf, roomOfLists};
+ghost use Rattle.comparer.specs.Compare.{settingLeft, tableLeft};
+ghost use Rattle.comparer.specs.Passed.{Enough, LimitsWithin};
+ghost use Rattle.comparer.specs.Work.{Finishes, Ran, countsBy};
+ghost use Rattle.sweep.specs.Ending.{verdictOf};
+ghost use Rattle.sweep_model.specs.Reply.{replyWith};
+ghost use Rattle.table.specs.Accepted.{Accepted};
+ghost use Rattle.table.specs.Table.{inputsOf, outputsOf, verticesOf};
+ghost use lib.ListN.{length, take};
+ghost use mathlib.Core.List.{List};
+ghost use mathlib.Core.Path.{_≡_};
+
+// The table's rows are copied to the pairs and swept there.
+pub fn run(
+    table: &[u32],
+    output: u32,
+    limits: Limits,
+    pairs: &mut [u32],
+    look: &mut [u32],
+    diagrams: &mut [u32],
+    stages: &mut [u32],
+    rows: &mut [u32],
+    marks: &mut [u8],
+) -> Ended
+    requires accepted { ⌜ Accepted (now table) ⌝ }
+    requires known { ⌜ output < outputsOf (now table) ⌝ }
+    requires within { ⌜ LimitsWithin (limitsOf limits) ⌝ }
+    requires room { ⌜ Enough (verticesOf (now table)) (limits .rows) (roomOfLists (now pairs) (now look) (now diagrams) (now stages) (now rows)) (length (now marks)) ⌝ }
+    ensures { λ r. ⌜ ((setting : List ℕ) → Ran (given (now (table .entry)) output limits (now (pairs .entry)) (now (look .entry)) (now (diagrams .entry)) (now (stages .entry)) (now (rows .entry)) (now (marks .entry)) setting) (now (pairs .exit)) (now (rows .exit)) (now (marks .exit)) r) ⌝ }
+{
+    copy_in(table, pairs);
+    let task = task_of(table, output, limits);
+    let count = task.count as usize;
+    let words = 2 * count;
+    sweep(
+        &mut pairs[..words],
+        look,
+        diagrams,
+        stages,
+        rows,
+        &mut marks[..count],
+        task,
+    )
+}
+
+// The rows and the outputs are copied back to the table, the setting is written after a Different, and the reply is made.
+pub fn finish(
+    table: &mut [u32],
+    pairs: &[u32],
+    rows: &[u32],
+    limit: u32,
+    ended: Ended,
+    setting: &mut [u8],
+) -> Reply
+    requires { ⌜ Finishes (now table) (now pairs) (now rows) limit ended (length (now setting)) ⌝ }
+    ensures { λ _. ⌜ now (table .exit) ≡ tableLeft (now (table .entry)) (take (2 * verticesOf (now (table .entry))) (now (pairs .entry))) ⌝ }
+    ensures { λ _. ⌜ now (setting .exit) ≡ settingLeft (verdictOf (now (rows .entry)) (inputsOf (now (table .entry))) (ended .end)) (now (setting .entry)) ⌝ }
+    ensures { λ r. ⌜ r ≡ replyWith (verdictOf (now (rows .entry)) (inputsOf (now (table .entry))) (ended .end)) (countsBy ended) ⌝ }
+{
+    let inputs = table[0] as usize;
+    let words = 2 * table::vertices(&table[..]);
+    copy_out(table, &pairs[..words]);
+    let end = ended.end;
+    write_setting(end, rows, ended.used, limit as usize, inputs, setting);
+    reply_of(ended)
+}

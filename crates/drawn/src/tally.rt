@@ -1,0 +1,53 @@
+// How many replies of each kind came, and how many answers were wrong.
+use libc::STDOUT_FILENO;
+
+pub const KINDS: usize = 8;
+
+pub const EQUAL: usize = 0;
+
+pub const DIFFERENT: usize = 1;
+
+pub const SIZE: usize = 2;
+
+pub const ROWS: usize = 3;
+
+pub const STEPS: usize = 4;
+
+pub const IDLE: usize = 5;
+
+pub const REFUSED: usize = 6;
+
+pub const WRONG: usize = 7;
+
+pub fn count(tally: &mut [u32; KINDS], kind: usize) {
+    tally[kind % KINDS] = std::num::wrapping_add_u32(tally[kind % KINDS], 1);
+}
+
+// Counts what does not hold.
+pub fn hold(tally: &mut [u32; KINDS], holds: bool) {
+    if holds {
+        return;
+    }
+    count(tally, WRONG);
+}
+
+pub fn print(tally: &[u32; KINDS]) {
+    print_line(b"equal ", tally, EQUAL);
+    print_line(b"different ", tally, DIFFERENT);
+    print_line(b"size ", tally, SIZE);
+    print_line(b"rows ", tally, ROWS);
+    print_line(b"steps ", tally, STEPS);
+    print_line(b"idle ", tally, IDLE);
+    print_line(b"refused ", tally, REFUSED);
+    print_line(b"wrong ", tally, WRONG);
+}
+
+fn print_line(word: &[u8], tally: &[u32; KINDS], kind: usize) {
+    io::write_all(STDOUT_FILENO, word);
+    io::print_decimal(STDOUT_FILENO, wide(tally[kind % KINDS]));
+    io::write_all(STDOUT_FILENO, b"\n");
+}
+
+fn wide(n: u32) -> u64 {
+    n as u64
+}

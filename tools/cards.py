@@ -1,0 +1,77 @@
+#!/usr/bin/env python3
+"""cards.py COMPARISONS CRATE
+
+Writes CRATE/data/cards.txt, the cards that the program `cards` runs, and CRATE/stdout, what it prints when all are right.
+The cards are the paper's bench cards that are run and not proved, then every line of COMPARISONS.
+
+COMPARISONS has a line for each comparison, with tabs between: list, left, right (lines parted by `;`, fields by `,`),
+output, size limit, row limit, step limit, then what must come: reply, vertex, setting, rows, steps, marks (a digit for
+each vertex), the table's words. Lines with the same list number follow one another on one table.
+
+cards.txt has the cards with `%` between them, and each card's fields with `|` between them: name, left file, right file,
+output, size limit, row limit, step limit, the reply's line (without the setting), setting, marks, words, and the end of the line. The files
+are empty where the card goes on with the table of the card before. Setting, marks and words have one more at their ends, which the
+comparison must not change: the program fills these slices with `-`, 9 and 7.
+"""
+import sys
+
+AND = "N,1,2,1,1;G,and,2,4;O,6"
+OR = "N,1,2,1,1;G,or,2,4;O,6"
+XOR = "N,1,2,1,1;G,xor,2,4;O,6"
+OR_AND = "N,1,2,3,1;G,or,2,4;G,and,2,4;G,and,6,9;O,10"
+AND_OR_WORDS = "2,2,1,2,4,3,5,6,9"
+
+# In the fields of COMPARISONS, with a name for the list number.
+PAPER = [
+    ("and/or", AND, OR, 0, 4096, 4096, 1000000, "different", "-", "01", 4, 6, "01111", AND_OR_WORDS),
+    ("and/or, row limit 3", AND, OR, 0, 4096, 3, 1000000, "rows", 4, "-", 3, 6, "01113", AND_OR_WORDS),
+    ("and/or, step limit 5", AND, OR, 0, 4096, 4096, 5, "steps", 4, "-", 3, 5, "01113", AND_OR_WORDS),
+    ("and/or, step limit 6", AND, OR, 0, 4096, 4096, 6, "different", "-", "01", 4, 6, "01111", AND_OR_WORDS),
+    ("and/or, size limit 1", AND, OR, 0, 1, 4096, 1000000, "size", "-", "-", 2, 6, "01122", AND_OR_WORDS),
+    ("xor", XOR, OR_AND, 0, 4096, 4096, 1000000, "equal", "-", "-", 7, 18, "011111111",
+     "2,6,1,2,5,3,4,7,9,3,5,2,4,11,11,11,11"),
+]
+
+
+def drawing(text):
+    return text.replace(",", "\t").replace(";", "\n") + "\n"
+
+
+def card(fields, goes_on):
+    name, left, right, output, size, rows, steps, reply, vertex, setting, made_rows, made_steps, marks, words = map(str, fields)
+    return "|".join([
+        name,
+        "" if goes_on else drawing(left),
+        "" if goes_on else drawing(right),
+        output,
+        size,
+        rows,
+        steps,
+        "\t".join(["1", output, reply, "-", vertex, made_rows, made_steps]) + "\n",
+        setting.strip("-") + "-",
+        marks + "9",
+        words + ",7",
+        "\n",
+    ])
+
+
+def main(comparisons, crate):
+    with open(comparisons) as file:
+        lines = [line.rstrip("\n").split("\t") for line in file]
+    cards = [card(fields, False) for fields in PAPER]
+    before = None
+    for fields in lines:
+        cards.append(card(["list " + fields[0]] + fields[1:], fields[0] == before))
+        before = fields[0]
+    with open(crate + "/data/cards.txt", "w") as file:
+        file.write("%".join(cards))
+    with open(crate + "/stdout", "w") as file:
+        for text in cards:
+            file.write(text.split("|")[0] + ": ok\n")
+        file.write("%d passed\n" % len(cards))
+
+
+if __name__ == "__main__":
+    if len(sys.argv) != 3:
+        sys.exit(__doc__)
+    main(sys.argv[1], sys.argv[2])
