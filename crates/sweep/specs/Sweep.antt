@@ -1,7 +1,7 @@
 -- The whole sweep, as in the model.
 use Prim.Native.Nat.{ℕ}
 use Rattle.sweep_graph.specs.Stages.{stagesOf}
-use Rattle.sweep_model.specs.Sweep.{Answer, Progress, answerOf, anyDropped?, sweep}
+use Rattle.sweep_model.specs.Sweep.{Answer, answerOf, anyDropped?, sweep}
 use Rattle.sweep_model.specs.declared.Cause.the-variants.{Idle, Size}
 use Rattle.sweep_model.specs.declared.Cause.{Cause}
 use Rattle.sweep.specs.Ending.{Closed, verdictOf}
