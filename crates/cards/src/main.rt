@@ -1,5 +1,9 @@
 // The bench cards of `cards.txt` run: a line for each, `ok` or what is not as the card says, and how many passed.
 // The file's layout stands in tools/cards.py, which writes it.
+use card_file::field;
+use card_file::number;
+use card_file::number_at;
+use card_file::number_count;
 use comparer::Limits;
 use libc::STDOUT_FILENO;
 use loader::Loaded;
@@ -35,12 +39,12 @@ fn run_cards(file: &[u8]) {
     let mut diagrams = [0u32; WORKING_ROOM];
     let mut stages = [0u32; WORKING_ROOM];
     let mut rows = [0u32; ROWS_ROOM];
-    let count = text::part_count(file, b'%');
+    let count = card_file::card_count(file);
     let mut passed: usize = 0;
     let mut k = 0;
     while k < count {
         passed += run_card(
-            part(file, k, b'%'),
+            card_file::card(file, k),
             &mut table,
             &mut pairs,
             &mut look,
@@ -52,18 +56,6 @@ fn run_cards(file: &[u8]) {
     }
     io::print_decimal(STDOUT_FILENO, passed as u64);
     io::write_all(STDOUT_FILENO, b" passed\n");
-}
-
-// Part `k` of `s`, or nothing where there are fewer.
-fn part(s: &[u8], k: usize, stop: u8) -> &[u8] {
-    if k < text::part_count(s, stop) {
-        return text::part(s, k, stop);
-    }
-    &s[..0]
-}
-
-fn field(card: &[u8], k: usize) -> &[u8] {
-    part(card, k, b'|')
 }
 
 // Runs a card and prints its line. Gives back 1 where all is as the card says, else 0.
@@ -205,11 +197,11 @@ fn is_sum(byte: u8, a: u8, b: u8) -> bool {
 
 // Whether `words` starts with the numbers of `front`.
 fn is_words(words: &[u32], front: &[u8]) -> bool {
-    let count = text::part_count(front, b',');
+    let count = number_count(front);
     let mut is_same = true;
     let mut i = 0;
     while i < count {
-        is_same = is_same && is_word(words, i, number(part(front, i, b',')));
+        is_same = is_same && is_word(words, i, number_at(front, i));
         i += 1;
     }
     is_same
@@ -220,26 +212,4 @@ fn is_word(words: &[u32], i: usize, word: u32) -> bool {
         return words[i] == word;
     }
     false
-}
-
-// The number that digits stand for, or the highest of 32 bits where it is higher.
-fn number(digits: &[u8]) -> u32 {
-    let mut value = 0;
-    let mut i = 0;
-    while i < digits.len() {
-        value = with_digit(value, digits[i]);
-        i += 1;
-    }
-    value
-}
-
-fn with_digit(value: u32, digit: u8) -> u32 {
-    if digit < b'0' {
-        return value;
-    }
-    let next = value as u64 * 10 + (digit - b'0') as u64;
-    if next <= u32::MAX as u64 {
-        return next as u32;
-    }
-    u32::MAX
 }

@@ -11,17 +11,14 @@ Inv-loop words front count is-same₀ i₀ is-same i = Unit {0}
 abbrev μ-loop : tie.MeasureT-loop
 μ-loop words front count is-same₀ i₀ is-same i = count - i
 
-part-count-requires : tie.Need-part-count-requires Inv-loop μ-loop
-part-count-requires c κs = search needs
+number-count-requires : tie.Need-number-count-requires Inv-loop μ-loop
+number-count-requires c κs = search needs
 
 loop-holds : tie.Need-loop-holds Inv-loop μ-loop
 loop-holds c = search needs
 
-part-requires : tie.Need-part-requires Inv-loop μ-loop
-part-requires c κs = search needs
-
-number-requires : tie.Need-number-requires Inv-loop μ-loop
-number-requires c κs = search needs
+number-at-requires : tie.Need-number-at-requires Inv-loop μ-loop
+number-at-requires c κs = search needs
 
 is-word-requires : tie.Need-is-word-requires Inv-loop μ-loop
 is-word-requires c κs = search needs
@@ -44,10 +41,9 @@ is-words-spec =
     (tie.spec
     Inv-loop
     μ-loop
-    part-count-requires
+    number-count-requires
     loop-holds
-    part-requires
-    number-requires
+    number-at-requires
     is-word-requires
     add-i
     loop-less

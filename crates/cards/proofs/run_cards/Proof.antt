@@ -11,14 +11,14 @@ Inv-loop file table₀ pairs₀ look₀ diagrams₀ stages₀ rows₀ count pass
 abbrev μ-loop : tie.MeasureT-loop
 μ-loop file table₀ pairs₀ look₀ diagrams₀ stages₀ rows₀ count passed₀ k₀ t11 table pairs look diagrams stages rows passed k = count - k
 
-part-count-requires : tie.Need-part-count-requires Inv-loop μ-loop
-part-count-requires c κs = search needs
+card-count-requires : tie.Need-card-count-requires Inv-loop μ-loop
+card-count-requires c κs = search needs
 
 loop-holds : tie.Need-loop-holds Inv-loop μ-loop
 loop-holds c = search needs
 
-part-requires : tie.Need-part-requires Inv-loop μ-loop
-part-requires c κs = search needs
+card-requires : tie.Need-card-requires Inv-loop μ-loop
+card-requires c κs = search needs
 
 run-card-requires : tie.Need-run-card-requires Inv-loop μ-loop
 run-card-requires c κs = search needs
@@ -53,9 +53,9 @@ run-cards-spec =
     (tie.spec
     Inv-loop
     μ-loop
-    part-count-requires
+    card-count-requires
     loop-holds
-    part-requires
+    card-requires
     run-card-requires
     add-passed
     add-k

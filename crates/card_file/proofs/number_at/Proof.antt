@@ -1,0 +1,19 @@
+-- The number of the part; no loop.
+-- The part and its number are those of the contracts.
+use Rattle.card_file.specs.CardFile.{numberOf}
+use mathlib.Core.Path.{_∙_, ap}
+use borrow.Author.Needs.{needs}
+use Rattle.card_file.proofs.number_at.Statement.{statement}
+use Rattle.card_file.proofs.number_at.Tie as tie
+
+part-requires : tie.Need-part-requires
+part-requires c κs = search needs
+
+number-requires : tie.Need-number-requires
+number-requires c κs = search needs
+
+returns : tie.Need-returns
+returns c = c .number .ensures ∙ ap numberOf (c .before .part .ensures)
+
+pub number-at-spec : {M : Type 1} → statement M
+number-at-spec = tie.close (tie.spec part-requires number-requires returns)
