@@ -1,8 +1,10 @@
 -- The laws of folding: each rule by itself, and what a folded AND and a pair that is left are.
 use Prim.Native.Nat.{ℕ, _<_, _≤_}
 use Rattle.aig.proofs.LiteralLaws.{negate-swap}
+use Rattle.aig.proofs.PairsLaws.{pair-each}
 use Rattle.aig.specs.Fold.{Unfolded, foldOf}
 use Rattle.aig.specs.Literal.{lit, negate}
+use Rattle.aig.specs.Pairs.{SamePair, crossed, straight}
 use Rattle.aig.specs.declared.fold.Folded.the-variants.{Pair, To}
 use Rattle.aig.specs.declared.fold.Folded.{Folded}
 use Rattle.aig.specs.declared.literal.Literal.{Literal}
@@ -97,13 +99,13 @@ fold-swapped p q u =
 -- What the answer of a fold is, by cases.
 Answer : ℕ → ℕ → Folded → Type 0
 Answer p q (To r) = (r .0 ≡ 0) ⊎ ((r .0 ≡ p) ⊎ (r .0 ≡ q))
-Answer p q (Pair x y) = Unfolded (x .0) (y .0) × (((x .0 ≡ p) × (y .0 ≡ q)) ⊎ ((x .0 ≡ q) × (y .0 ≡ p)))
+Answer p q (Pair x y) = Unfolded (x .0) (y .0) × SamePair (x .0) (y .0) p q
 
 answers : (p q : ℕ) → Answer p q (foldOf p q)
 unfolding Answer
 answers p q =
     fold-cases p q (Answer p q) (λ h. inr (inl refl)) (λ h. inl refl) (λ h. inl refl) (λ h. inl refl) (λ h. inr (inr refl)) (λ h. inr (inl refl))
-    (λ u. (u, inl (refl, refl))) (λ u. (u, inr (refl, refl)))
+    (λ u. (u, straight refl refl)) (λ u. (u, crossed refl refl))
 
 -- A folded AND is false or one of its operands.
 pub to-among : (p q : ℕ) {r : Literal} → foldOf p q ≡ To r → (r .0 ≡ 0) ⊎ ((r .0 ≡ p) ⊎ (r .0 ≡ q))
@@ -121,13 +123,13 @@ unfolding Answer
 pair-unfolded p q e = subst (Answer p q) e (answers p q) .0
 
 -- A pair that is left has the two operands.
-pub pair-operands : (p q : ℕ) {x y : Literal} → foldOf p q ≡ Pair x y → ((x .0 ≡ p) × (y .0 ≡ q)) ⊎ ((x .0 ≡ q) × (y .0 ≡ p))
+pub pair-operands : (p q : ℕ) {x y : Literal} → foldOf p q ≡ Pair x y → SamePair (x .0) (y .0) p q
 unfolding Answer
 pair-operands p q e = subst (Answer p q) e (answers p q) .1
 
 -- A pair that is left keeps the operands' bound.
 pub pair-below : (p q n : ℕ) {x y : Literal} → foldOf p q ≡ Pair x y → p < n → q < n → (x .0 < n) × (y .0 < n)
-pair-below p q n e hp hq = ⊎-elim (λ h. omega arith) (λ h. omega arith) (pair-operands p q e)
+pair-below p q n e hp hq = pair-each (λ (r : ℕ). r < n) (pair-operands p q e) hp hq
 
 -- Every row is its own fold: a pair that is left folds to itself.
 pub pair-again : (p q : ℕ) {x y : Literal} → foldOf p q ≡ Pair x y → foldOf (x .0) (y .0) ≡ Pair x y

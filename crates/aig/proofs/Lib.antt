@@ -3,6 +3,7 @@ pub mod FoldLaws
 pub mod IndexLaws
 pub mod LiteralLaws
 pub mod OwnLaws
+pub mod PairsLaws
 pub mod TruthLaws
 pub mod ValuesLaws
 mod WalkLaws

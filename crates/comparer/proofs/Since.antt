@@ -6,14 +6,15 @@ use mathlib.Core.Path.{_∙_, _≡_, refl}
 use Prim.Native.Nat.{_+_, _<_, _≤_, ℕ}
 use native.Mathlib.Decide.{ℕ-discrete}
 use native.Mathlib.Omega.{arith}
+use Rattle.aig.proofs.PairsLaws.{pair-then}
 use Rattle.aig.specs.Lookup.{firstWord, secondWord}
+use Rattle.aig.specs.Pairs.{SamePair, straight}
 use Rattle.comparer.proofs.GraphLaws.{count-vertices, fits, literalIn}
 use Rattle.comparer.proofs.LeftLaws.{Swept, accepted-left, functions-left, graph-left, inputs-left, made-left, output-left, outputs-left}
 use Rattle.comparer.proofs.RefusalLaws.{compared-answered, compared-refused, passed}
 use Rattle.comparer.specs.Compare.{Given, answerTo, answered, compared, graphWords, problemOf, refusalOf, turnedBack}
 use Rattle.sweep_model.proofs.Kept.{operands-kept, sweep-steady}
 use Rattle.sweep_model.proofs.Steady.{Steady}
-use Rattle.sweep_model.proofs.Tidy.{SamePair, crossed, straight}
 use Rattle.sweep_model.specs.Fit.{Fit, vertexCount}
 use Rattle.sweep_model.specs.Normalise.{merged?}
 use Rattle.sweep_model.specs.State.{Problem}
@@ -49,12 +50,6 @@ since-loaded h =
       output = λ side k l. refl;
       operands = λ v l m e. straight refl refl;
     }
-
-pair-then : {A : Type 0} {a b c d e f : A} → SamePair a b c d → SamePair c d e f → SamePair a b e f
-pair-then (straight x y) (straight z w) = straight (x ∙ z) (y ∙ w)
-pair-then (straight x y) (crossed z w) = crossed (x ∙ z) (y ∙ w)
-pair-then (crossed x y) (straight z w) = crossed (x ∙ w) (y ∙ z)
-pair-then (crossed x y) (crossed z w) = straight (x ∙ w) (y ∙ z)
 
 -- The problem of a comparison, by a table.
 abbrev pub problemBy : List ℕ → Given → Problem

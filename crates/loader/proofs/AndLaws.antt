@@ -5,7 +5,8 @@ use mathlib.Core.Path.{_≡_, ap, ap₂, refl, subst₂, sym, _∙_}
 use Prim.Native.Nat.{_*_, _+_, _<_, _≤_, suc, zero, ℕ}
 use native.Mathlib.Omega.{arith}
 use lib.ListN.{getD, length, length-map}
-use Rattle.loader.proofs.FromLaws.{place-pair, place-within, placeIn, same-pair-value, total-from}
+use Rattle.aig.proofs.PairsLaws.{same-pair-value}
+use Rattle.loader.proofs.FromLaws.{place-pair, place-within, placeIn, total-from}
 use Rattle.loader.proofs.PairLaws.{pair-good}
 use Rattle.loader.proofs.TableLaws.{grown-rows, rows-downward, table-graph}
 use Rattle.loader.proofs.ValueLaws.{functions-mean}

@@ -1,11 +1,12 @@
 -- Rows that come from ANDs: where each comes from, and what carries over from rows to ANDs.
 use mathlib.Core.List.{List, [], _++_, _∷_}
-use mathlib.Core.Logic.{⊎-elim}
-use mathlib.Core.Path.{_≡_, ap₂, _∙_}
+use mathlib.Core.Path.{_≡_}
 use Prim.Native.Nat.{_<_, _≤_, suc, zero, ℕ}
 use native.Mathlib.Omega.{arith}
 use lib.ListN.{getD, length}
-use Rattle.loader.specs.From.{From, SamePair, made, none, other, total}
+use Rattle.aig.proofs.PairsLaws.{same-pair-value}
+use Rattle.aig.specs.Pairs.{SamePair}
+use Rattle.loader.specs.From.{From, made, none, other, total}
 
 module _ {A : Type 0} where
   -- No row comes from any ANDs.
@@ -35,7 +36,8 @@ module _ {A : Type 0} where
   place-within (other f) i h = omega (arith, place-within f i h)
 
   -- which has the row's operands, in either order;
-  pub place-pair : {xs ys : List (A × A)} (f : From xs ys) (z : A × A) (i : ℕ) → i < length xs → SamePair (getD xs i z) (getD ys (placeIn f i) z)
+  pub place-pair : {xs ys : List (A × A)} (f : From xs ys) (z : A × A) (i : ℕ) → i < length xs
+      → SamePair (getD xs i z .0) (getD xs i z .1) (getD ys (placeIn f i) z .0) (getD ys (placeIn f i) z .1)
   unfolding placeIn
   place-pair none z i h = absurd (omega arith)
   place-pair (made s f) z zero h = s
@@ -52,14 +54,9 @@ module _ {A : Type 0} where
   place-rises (made s f) (suc i) (suc j) l h = omega (arith, place-rises f i j (omega arith) (omega arith))
   place-rises (other f) i j l h = omega (arith, place-rises f i j l h)
 
-  -- What is symmetric has one value on the same two operands.
-  pub same-pair-value : {B : Type 0} (f : A → A → B) → ((x y : A) → f x y ≡ f y x) → {x y : A × A} → SamePair x y → f (x .0) (x .1) ≡ f (y .0) (y .1)
-  same-pair-value f comm {x} {y} s =
-      ⊎-elim (λ h. ap₂ f (h .0) (h .1)) (λ h. ap₂ f (h .0) (h .1) ∙ comm (y .1) (y .0)) s
-
   -- A sum over rows is at most the sum over the ANDs.
   pub total-from : (f : A → A → ℕ) → ((x y : A) → f x y ≡ f y x) → {xs ys : List (A × A)} → From xs ys → total f xs ≤ total f ys
   unfolding total
   total-from f comm none = omega arith
-  total-from f comm (made {x = x} {y = y} s g) = omega (arith, total-from f comm g, same-pair-value f comm {x = x} {y = y} s)
+  total-from f comm (made s g) = omega (arith, total-from f comm g, same-pair-value f comm s)
   total-from f comm (other g) = omega (arith, total-from f comm g)

@@ -1,12 +1,12 @@
 -- What literals of the graph mean, over any domain: gates, files and both files, by the values of the graph that is left in the end.
 use mathlib.Core.Bool.{false}
 use mathlib.Core.List.{List, [], _++_, _∷_, map-append}
-use mathlib.Core.Logic.{⊎-elim, inl, inr}
 use mathlib.Core.Path.{_≡_, ap, ap₂, refl, _∙_}
 use Prim.Native.Nat.{_*_, _+_, _<_, _≤_, suc, zero, ℕ}
 use native.Mathlib.Omega.{arith}
 use lib.ListN.{getD, length, length-append}
 use Rattle.aig.proofs.FoldLaws.{pair-operands, pair-unfolded}
+use Rattle.aig.proofs.PairsLaws.{pair-map}
 use Rattle.aig.proofs.ValuesLaws.{pair-means, to-means, value-literal, value-negate, value-onto}
 use Rattle.aig.specs.Literal.{negate, vertexOf}
 use Rattle.aig.specs.Values.{literalValue}
@@ -93,10 +93,7 @@ module _ {A : Type 0} {Sound : A → Type 0} {invert : A → A} {both : A → A 
                 record {
                   rows = (x .0, y .0) ∷ [];
                   grown = grown-one refl refl;
-                  from =
-                      origins.made
-                      (⊎-elim (λ k. inl (ap value (k .0), ap value (k .1))) (λ k. inr (ap value (k .0), ap value (k .1))) (pair-operands p q e))
-                      origins.none;
+                  from = origins.made (pair-map value (pair-operands p q e)) origins.none;
                 };
           }
 

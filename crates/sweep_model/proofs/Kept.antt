@@ -1,14 +1,15 @@
 -- The sweep keeps every function: rows and outputs at the end stand for what they stood for at entry.
 use mathlib.Core.Bool.{false}
 use mathlib.Core.List.{List}
-use mathlib.Core.Path.{_∙_, _≡_, ap, ap₂}
+use mathlib.Core.Path.{_≡_}
 use Prim.Native.Nat.{_*_, _<_, _≤_, ℕ}
 use native.Mathlib.Omega.{arith}
+use Rattle.aig.proofs.PairsLaws.{pair-map, pair-then, same-pair-value}
 use Rattle.aig.specs.Lookup.{firstWord, secondWord}
+use Rattle.aig.specs.Pairs.{SamePair, straight}
 use Rattle.sweep_model.proofs.Induction.{Endings, endings-keep, sweep-keeps}
 use Rattle.sweep_model.proofs.Rows.{resolve-function}
 use Rattle.sweep_model.proofs.Steady.{Steady, mark-steady}
-use Rattle.sweep_model.proofs.Tidy.{SamePair, crossed, straight}
 use Rattle.sweep_model.specs.Fit.{Fit, Sound, vertexCount}
 use Rattle.sweep_model.specs.Normalise.{merged?, resolve}
 use Rattle.sweep_model.specs.State.{Problem, State, literalFunction}
@@ -19,8 +20,7 @@ use Rattle.truth.specs.Truth.{Truth}
 
 -- Operands of the same functions, in either order, take the same steps.
 pub pair-steps : {f g f′ g′ : Truth} → SamePair f g f′ g′ → steps f g ≡ steps f′ g′
-pair-steps (straight a b) = ap₂ steps a b
-pair-steps {f′ = f′} {g′ = g′} (crossed a b) = ap₂ steps a b ∙ steps-symmetric g′ f′
+pair-steps s = same-pair-value steps steps-symmetric s
 
 module _ {p : Problem} {entry : List ℕ} (fit : Fit p entry) where
   module _ {s : State} (h : Steady p entry s) (v : ℕ) (made : p .first ≤ v) (within : v < vertexCount p) (unmerged : merged? (s .rows) v ≡ false) where
@@ -28,19 +28,13 @@ module _ {p : Problem} {entry : List ℕ} (fit : Fit p entry) where
     pub operands-kept :
         SamePair (literalFunction p (firstWord (s .rows) v)) (literalFunction p (secondWord (s .rows) v)) (literalFunction p (firstWord entry v))
         (literalFunction p (secondWord entry v))
-    operands-kept = go (h .moved .pairs v made within unmerged)
+    operands-kept = pair-then (pair-map (literalFunction p) (h .moved .pairs v made within unmerged)) (straight first second)
       where
         first : literalFunction p (resolve (s .rows) (firstWord entry v)) ≡ literalFunction p (firstWord entry v)
         first = resolve-function p (fit .well-formed) (h .sound) (firstWord entry v) (omega (arith, fit .sound .downward .first-below v made within))
 
         second : literalFunction p (resolve (s .rows) (secondWord entry v)) ≡ literalFunction p (secondWord entry v)
         second = resolve-function p (fit .well-formed) (h .sound) (secondWord entry v) (omega (arith, fit .sound .downward .second-below v made within))
-
-        go : SamePair (firstWord (s .rows) v) (secondWord (s .rows) v) (resolve (s .rows) (firstWord entry v)) (resolve (s .rows) (secondWord entry v))
-            → SamePair (literalFunction p (firstWord (s .rows) v)) (literalFunction p (secondWord (s .rows) v)) (literalFunction p (firstWord entry v))
-            (literalFunction p (secondWord entry v))
-        go (straight a b) = straight (ap (literalFunction p) a ∙ first) (ap (literalFunction p) b ∙ second)
-        go (crossed a b) = crossed (ap (literalFunction p) a ∙ second) (ap (literalFunction p) b ∙ first)
 
     -- So its product takes the steps of the operands at entry.
     pub steps-kept :

@@ -1,7 +1,7 @@
 -- Normalising, row by row: it leaves tidy rows, each moved on.
 use mathlib.Core.Bool.{Bool, _&&_, false, true}
 use mathlib.Core.List.{List}
-use mathlib.Core.Logic.{_≢_, _⊎_, inl, inr, ⊎-elim}
+use mathlib.Core.Logic.{_≢_, _⊎_, ⊎-elim}
 use mathlib.Core.Path.{_∙_, _≡_, ap, refl, subst, sym}
 use Prim.Native.Nat.{_*_, _+_, _-_, _<_, _≤_, suc, zero, ℕ}
 use native.Mathlib.Decide.{decLt, ℕ-discrete}
@@ -13,16 +13,18 @@ use borrow.Author.Tests.{eqb-true}
 use Rattle.aig.proofs.FirstVertexLaws.{first-nothing, found-at, found-nothing}
 use Rattle.aig.proofs.FoldLaws.{fold-ordered, fold-same, pair-below, pair-operands, pair-unfolded, to-among, to-below}
 use Rattle.aig.proofs.IndexLaws.{row-length}
+use Rattle.aig.proofs.PairsLaws.{pair-each, pair-then}
 use Rattle.aig.specs.Fold.{Unfolded, foldOf}
 use Rattle.aig.specs.Literal.{lit, vertexOf}
 use Rattle.aig.specs.Lookup.{First, Holds, Unused, firstVertex, firstWord, secondWord, withRow}
+use Rattle.aig.specs.Pairs.{SamePair, crossed, straight}
 use Rattle.aig.specs.declared.fold.Folded.{Folded}
 use Rattle.aig.specs.declared.fold.Folded.the-variants.{Pair, To}
 use Rattle.aig.specs.declared.literal.Literal.{Literal}
 use Rattle.aig.specs.declared.lookup.Found.{Found}
 use Rattle.aig.specs.declared.lookup.Found.the-variants.{At, Nothing}
 use Rattle.sweep_model.proofs.Rows.{resolve-agree, resolve-within, row-downward, row-here, row-other}
-use Rattle.sweep_model.proofs.Tidy.{Moves, SamePair, Tidy, crossed, equal-merged, first-unmerged, merged-agree, resolve-kept, resolve-unmerged, straight, tidy-agree, tidy-less, unequal-stays, unequal-unmerged}
+use Rattle.sweep_model.proofs.Tidy.{Moves, Tidy, equal-merged, first-unmerged, merged-agree, resolve-kept, resolve-unmerged, tidy-agree, tidy-less, unequal-stays, unequal-unmerged}
 use Rattle.sweep_model.specs.Fit.{Downward}
 use Rattle.sweep_model.specs.Normalise.{foldedRow, foundRow, merged?, mergedInto, normaliseFrom, normaliseRow, resolve, wasMerged?}
 use Rattle.truth.proofs.Booleans.{clash}
@@ -76,10 +78,6 @@ module _ {first count : ℕ} (some : 1 ≤ first) {rows : List ℕ} (d : Downwar
       apart : {x y : Literal} → foldOf a b ≡ Pair x y → a ≢ b
       apart e s = let z : _≡_ {A = ℕ} 0 1 = cc (fold-same a b s) in omega arith
 
-      operands : {x y : ℕ} → ((x ≡ a) × (y ≡ b)) ⊎ ((x ≡ b) × (y ≡ a)) → SamePair x y a b
-      operands (inl h) = straight (h .0) (h .1)
-      operands (inr h) = crossed (h .0) (h .1)
-
       found : {x y : Literal} → foldOf a b ≡ Pair x y → (f : Found) → firstVertex rows (x .0) (y .0) v ≡ f → Settles first rows (foundRow rows v (x .0) (y .0) f) v
       found {x} {y} e (At u) h =
           record {
@@ -104,15 +102,16 @@ module _ {first count : ℕ} (some : 1 ≤ first) {rows : List ℕ} (d : Downwar
               (unequal-unmerged rows u (λ s. omega (arith, pair-unfolded a b e .ordered, here .holds .first, here .holds .second))))
       found {x} {y} e Nothing h =
           let low = pair-below a b (2 * v) e low-first low-second in
+          let stay = pair-each (λ (r : ℕ). wasMerged? first rows (vertexOf r) ≡ false) (pair-operands a b e) stays-first stays-second in
           record {
             x = x .0;
             y = y .0;
             written = refl;
             first-low = low .0;
             second-low = low .1;
-            first-stays = ⊎-elim (λ k. rw (k .0) stays-first) (λ k. rw (k .0) stays-second) (pair-operands a b e);
-            second-stays = ⊎-elim (λ k. rw (k .1) stays-second) (λ k. rw (k .1) stays-first) (pair-operands a b e);
-            settled = kept (pair-unfolded a b e) (operands (pair-operands a b e)) (found-nothing rows (x .0) (y .0) v h);
+            first-stays = stay .0;
+            second-stays = stay .1;
+            settled = kept (pair-unfolded a b e) (pair-operands a b e) (found-nothing rows (x .0) (y .0) v h);
           }
 
       go : (f : Folded) → foldOf a b ≡ f → Settles first rows (foldedRow rows v f) v
@@ -244,10 +243,9 @@ normalised {first} {count} some (suc n) k rows d t made within =
                 pairs = λ v l h e.
                     elim (ℕ-discrete v k) [
                       | yes i ↦ rw i (here-pairs (s .settled) (rw i at e))
-                      | no i ↦ subst (λ (x : ℕ). SamePair (firstWord other v) (secondWord other v) (resolve other x) (resolve other (secondWord rows v)))
-                          (row-before some d k t made (omega arith) s v i .first)
-                          (subst (λ (y : ℕ). SamePair (firstWord other v) (secondWord other v) (resolve other (firstWord mid v)) (resolve other y))
-                          (row-before some d k t made (omega arith) s v i .second) (r .moves .pairs v (omega arith) (omega arith) e))
+                      | no i ↦ (let b = row-before some d k t made (omega arith) s v i in
+                          pair-then (r .moves .pairs v (omega arith) (omega arith) e)
+                          (straight (ap (resolve other) (b .first)) (ap (resolve other) (b .second))))
                     ];
               };
           before = λ u h.
@@ -294,8 +292,7 @@ normalised {first} {count} some (suc n) k rows d t made within =
             Settled rows k (s .x) (s .y) → merged? other k ≡ false
             → SamePair (firstWord other k) (secondWord other k) (resolve other (firstWord rows k)) (resolve other (secondWord rows k))
         here-pairs (joined e i) m = clash (equal-merged other k (now .first ∙ e ∙ sym (now .second))) m
-        here-pairs (kept f (straight a b) u) m = straight (now .first ∙ a ∙ first-settled) (now .second ∙ b ∙ second-settled)
-        here-pairs (kept f (crossed a b) u) m = crossed (now .first ∙ a ∙ second-settled) (now .second ∙ b ∙ first-settled)
+        here-pairs (kept f p u) m = pair-then (straight (now .first) (now .second)) (pair-then p (straight first-settled second-settled))
 
 -- Nothing is asked of rows below the first made vertex.
 pub tidy-first : (first : ℕ) (rows : List ℕ) → Tidy first first rows
@@ -427,12 +424,8 @@ module _ {first count : ℕ} (some : 1 ≤ first) {rows : List ℕ} (d : Downwar
                   mid-renewed .moves .into u l h (same u (before u k) ∙ k) ∙ ap (resolve (mergedRows first count rows v r)) (row-other rows v r r u (before u k) .first);
               pairs = λ u l h k.
                   let o = row-other rows v r r u (after u k) in
-                  subst (λ (x : ℕ). SamePair (firstWord (mergedRows first count rows v r) u) (secondWord (mergedRows first count rows v r) u) (resolve (mergedRows first count rows v r) x) (resolve (mergedRows first count rows v r) (secondWord rows u)))
-                  (o .first)
-                  (subst
-                  (λ (y : ℕ).
-                  SamePair (firstWord (mergedRows first count rows v r) u) (secondWord (mergedRows first count rows v r) u) (resolve (mergedRows first count rows v r) (firstWord (mergedInto rows v r) u)) (resolve (mergedRows first count rows v r) y))
-                  (o .second) (mid-renewed .moves .pairs u l h k));
+                  pair-then (mid-renewed .moves .pairs u l h k)
+                  (straight (ap (resolve (mergedRows first count rows v r)) (o .first)) (ap (resolve (mergedRows first count rows v r)) (o .second)));
             };
       }
     where

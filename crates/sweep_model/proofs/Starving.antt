@@ -12,6 +12,7 @@ use borrow.Author.Tests.{le-leb}
 use Rattle.aig.specs.Fold.{Unfolded}
 use Rattle.aig.specs.Literal.{vertexOf}
 use Rattle.aig.specs.Lookup.{firstWord, secondWord}
+use Rattle.aig.specs.Pairs.{SamePair, crossed, straight}
 use Rattle.product_model.specs.Run.{Book}
 use Rattle.sweep_model.proofs.Choices.{LowestTwin}
 use Rattle.sweep_model.proofs.Merger.{merger-moves, merger-steady, merger-taken}
@@ -19,7 +20,7 @@ use Rattle.sweep_model.proofs.Rows.{resolve-vertex}
 use Rattle.sweep_model.proofs.Stages.{bare-not-gone, stage-within, waits-wake}
 use Rattle.sweep_model.proofs.Steady.{Due, Giving, Steady, alive-unmerged, due-alive, due-within}
 use Rattle.sweep_model.proofs.Takes.{Fate, Newly, Taken, either?, left-alone, taken-bare, target, target-fate, woken}
-use Rattle.sweep_model.proofs.Tidy.{SamePair, Tidy, crossed, made-merged, merged-equal, resolve-kept, straight}
+use Rattle.sweep_model.proofs.Tidy.{Tidy, made-merged, merged-equal, resolve-kept}
 use Rattle.sweep_model.specs.Fit.{Downward, Fit, vertexCount}
 use Rattle.sweep_model.specs.Normalise.{merged?, resolve, wake, wasMerged?}
 use Rattle.sweep_model.specs.State.{Problem, Stage, State, bare?, gone, gone?, has?, open?, opened, stageOf, waiting, waits?, withBook}

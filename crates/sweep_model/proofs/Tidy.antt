@@ -9,18 +9,15 @@ use native.Mathlib.Omega.{arith}
 use lib.Dec.{eqb, leb}
 use lib.ListN.{length}
 use borrow.Author.Tests.{eq-eqb, le-leb, leb-true, lt-leb, ne-eqb}
+use Rattle.aig.proofs.PairsLaws.{pair-map, pair-then}
 use Rattle.aig.specs.Fold.{Unfolded}
 use Rattle.aig.specs.Literal.{onto, vertexOf}
 use Rattle.aig.specs.Lookup.{Holds, firstWord, secondWord}
+use Rattle.aig.specs.Pairs.{SamePair, straight}
 use Rattle.sweep_model.proofs.Rows.{onto-vertex, resolve-cases, resolve-first, resolve-merged, resolve-onto, resolve-stays}
 use Rattle.sweep_model.specs.Fit.{Downward}
 use Rattle.sweep_model.specs.Normalise.{merged?, resolve, wasMerged?}
 use Rattle.truth.proofs.Booleans.{and-left, and-right, clash, not-true}
-
--- Two pairs are the same up to order.
-pub data SamePair {A : Type 0} (x y p q : A) : Type 0 where
-  straight : x ≡ p → y ≡ q → SamePair x y p q
-  crossed : x ≡ q → y ≡ p → SamePair x y p q
 
 -- A vertex with equal words passes for merged.
 pub equal-merged : (rows : List ℕ) (v : ℕ) → firstWord rows v ≡ secondWord rows v → merged? rows v ≡ true
@@ -118,7 +115,9 @@ moves-on {first} {count} {rows} {mid} {other} d e m n =
       still = λ v l h k. n .still v l h (m .still v l h k);
       into = λ v l h k. n .into v l h (m .still v l h k) ∙ ap (resolve other) (m .into v l h k) ∙ firsts v l h;
       pairs = λ v l h k.
-          join v l h (m .pairs v l h (not-true (merged? mid v) (λ i. clash (n .still v l h i) k))) (n .pairs v l h k);
+          pair-then (n .pairs v l h k)
+          (pair-then (pair-map (resolve other) (m .pairs v l h (not-true (merged? mid v) (λ i. clash (n .still v l h i) k))))
+          (straight (firsts v l h) (seconds v l h)));
     }
   where
     firsts : (v : ℕ) → first ≤ v → v < count → resolve other (resolve mid (firstWord rows v)) ≡ resolve other (firstWord rows v)
@@ -126,15 +125,6 @@ moves-on {first} {count} {rows} {mid} {other} d e m n =
 
     seconds : (v : ℕ) → first ≤ v → v < count → resolve other (resolve mid (secondWord rows v)) ≡ resolve other (secondWord rows v)
     seconds v l h = resolve-twice e n (secondWord rows v) (omega (arith, d .second-below v l h))
-
-    join : (v : ℕ) → first ≤ v → v < count
-        → SamePair (firstWord mid v) (secondWord mid v) (resolve mid (firstWord rows v)) (resolve mid (secondWord rows v))
-        → SamePair (firstWord other v) (secondWord other v) (resolve other (firstWord mid v)) (resolve other (secondWord mid v))
-        → SamePair (firstWord other v) (secondWord other v) (resolve other (firstWord rows v)) (resolve other (secondWord rows v))
-    join v l h (straight a b) (straight x y) = straight (x ∙ ap (resolve other) a ∙ firsts v l h) (y ∙ ap (resolve other) b ∙ seconds v l h)
-    join v l h (straight a b) (crossed x y) = crossed (x ∙ ap (resolve other) b ∙ seconds v l h) (y ∙ ap (resolve other) a ∙ firsts v l h)
-    join v l h (crossed a b) (straight x y) = crossed (x ∙ ap (resolve other) a ∙ seconds v l h) (y ∙ ap (resolve other) b ∙ firsts v l h)
-    join v l h (crossed a b) (crossed x y) = straight (x ∙ ap (resolve other) b ∙ firsts v l h) (y ∙ ap (resolve other) a ∙ seconds v l h)
 
 -- Tidy rows stay as they are.
 pub moves-nowhere : {first count : ℕ} {rows : List ℕ} → Downward first count rows → Tidy first count rows → Moves first count rows rows
