@@ -6,4 +6,6 @@ pub mod SettingLaws
 pub mod RunLaws
 pub mod CompareLaws
 pub mod Since
+pub mod RestLaws
 pub mod ReplyLaws
+pub mod ClaimLaws

@@ -1,32 +1,37 @@
--- What a comparison that is not refused replies, in terms of the table as loaded.
+-- What the verdict of a comparison that is not refused says, in terms of the table as loaded.
 use mathlib.Core.Bool.{Bool, _||_, cond, false, true}
 use mathlib.Core.List.{List, [], _++_, _∷_, map}
-use mathlib.Core.Logic.{_≢_}
+use mathlib.Core.Logic.{_≢_, inl}
 use mathlib.Core.Path.{_∙_, _≡_, ap, ap₂, refl, subst, sym}
 use Prim.Native.Nat.{_+_, _-_, _<_, _≤_, suc, ℕ}
+use native.Mathlib.Decide.{decLt}
 use native.Mathlib.Omega.{arith}
-use lib.ListN.{drop, getD, length, length-drop}
+use lib.ListN.{List·getD-append, List·getD-eq-default, drop, getD, length, length-drop}
 use lib.Seq.{drop-append-le, getD-drop}
 use Rattle.comparer.proofs.GraphLaws.{count-vertices, left-literal, right-literal}
 use Rattle.comparer.proofs.RefusalLaws.{passed}
-use Rattle.comparer.proofs.Since.{Since, given-fits, problemBy}
+use Rattle.comparer.proofs.RestLaws.{rest-alike}
+use Rattle.comparer.proofs.Since.{Since, given-fits, given-rows}
+use Rattle.comparer.specs.Claims.{AfterRows, AfterSize, AfterSteps, Marked3, RowsKept, SameFunction, StepsKept, problemBy}
 use Rattle.comparer.specs.Compare.{Given, answerTo, answered, graphWords, problemOf, refusalOf}
+use Rattle.sweep_model.proofs.AfterRest.{after-rest}
 use Rattle.sweep_model.proofs.Kept.{pair-steps}
 use Rattle.sweep_model.proofs.Marked.{andAt, ands-at, ands-length}
 use Rattle.sweep_model.proofs.NeverIdle.{never-idle}
-use Rattle.sweep_model.proofs.ReplyLaws.{marked-unmerged, marks-long, rows-counted, rows-passed, size-some, steps-counted, steps-full, steps-passed, two-large, two-made}
+use Rattle.sweep_model.proofs.Replies.{names-one}
+use Rattle.sweep_model.proofs.ReplyLaws.{marked-unmerged, marks-long, rows-counted, rows-passed, size-some, steps-counted, steps-full, steps-passed, three-named, two-large, two-made}
 use Rattle.sweep_model.proofs.Right.{different-right, equal-right}
-use Rattle.sweep_model.specs.Claims.{And, Names, andSteps, andsFrom, andsOf, is, isEither, marked, rowsMarked, rowsMarkedWithLast, stepsMarked, sum}
+use Rattle.sweep_model.specs.Claims.{And, Names, andSteps, andsFrom, andsOf, by-rows, by-steps, is, isEither, marked, sum}
 use Rattle.sweep_model.specs.Fit.{vertexCount}
 use Rattle.sweep_model.specs.Normalise.{merged?}
-use Rattle.sweep_model.specs.State.{Problem, literalFunction}
+use Rattle.sweep_model.specs.State.{Problem, functionOf, literalFunction}
 use Rattle.sweep_model.specs.Sweep.{different, equal, undecided}
 use Rattle.sweep_model.specs.declared.Cause.the-variants.{Idle, Rows, Size, Steps}
-use Rattle.table.specs.Table.{functionsOf, graphOf, inputsOf, madeOf, outputFunction, verticesOf}
+use Rattle.table.specs.Table.{graphOf, inputsOf, outputFunction, verticesOf}
 use Rattle.truth.proofs.Booleans.{clash}
-use Rattle.truth.specs.Parts.{size, together}
+use Rattle.truth.specs.Parts.{together}
 use Rattle.truth.specs.Settings.{FirstDifference}
-use Rattle.truth.specs.Truth.{Setting, constantly}
+use Rattle.truth.specs.Truth.{Setting}
 
 module _ {A : Type 0} (test : ℕ → Bool) where
   -- Marks past the last thing do not count.
@@ -56,7 +61,7 @@ module _ {A : Type 0} (test : ℕ → Bool) where
       go false e ih = ih
 
   -- A sum over those marked is at most the sum over all.
-  sum-fewer : (f : A → ℕ) (marks : List ℕ) (xs : List A) → sum (map f (marked test marks xs)) ≤ sum (map f xs)
+  pub sum-fewer : (f : A → ℕ) (marks : List ℕ) (xs : List A) → sum (map f (marked test marks xs)) ≤ sum (map f xs)
   unfolding marked sum
   sum-fewer f [] xs = omega arith
   sum-fewer f (m ∷ marks) [] = omega arith
@@ -66,6 +71,14 @@ module _ {A : Type 0} (test : ℕ → Bool) where
           → sum (map f (cond b (x ∷ marked test marks xs) (marked test marks xs))) ≤ f x + sum (map f xs)
       go true ih = omega arith
       go false ih = omega arith
+
+-- There is no mark past the last.
+mark-within : (marks : List ℕ) (v : ℕ) → getD marks v 0 ≢ 0 → v < length marks
+mark-within marks v h =
+    elim (decLt v (length marks)) [
+      | yes l ↦ l
+      | no l ↦ absurd (h (List·getD-eq-default marks 0 (omega arith)))
+    ]
 
 -- The steps of the ANDs whose mark passes a test.
 abbrev stepsOf : (ℕ → Bool) → Problem → List ℕ → List ℕ → ℕ
@@ -119,6 +132,10 @@ module _ (g : Given) (h : refusalOf g ≡ 0) {loaded : List ℕ} (s : Since load
   same-count : vertexCount here ≡ vertexCount there
   same-count = omega (arith, count-vertices (g .table) (g .output) (g .limits), count, s .inputs, s .made)
 
+  first-few : there .first ≤ vertexCount there
+  unfolding problemOf
+  first-few = omega (arith, count)
+
   long : length marks ≡ verticesOf loaded
   unfolding answerTo
   long = marks-long (given-fits g h) ∙ count-vertices (g .table) (g .output) (g .limits) ∙ omega (arith, s .inputs, s .made)
@@ -144,20 +161,25 @@ module _ (g : Given) (h : refusalOf g ≡ 0) {loaded : List ℕ} (s : Since load
       sum-alike test here there (graphWords (g .table)) (graphWords loaded) marks (drop (length marks) (g .marks)) same-first same-count (long ∙ sym count) first-few
       (λ v l m e. same-steps v l (omega (arith, count)) (unmerged v l (λ z. clash e (ap test z ∙ none))))
     where
-      first-few : there .first ≤ vertexCount there
-      first-few = unfold problemOf in omega (arith, count)
-
       unmerged : (v : ℕ) → there .first ≤ v → getD marks v 0 ≢ 0 → merged? (graphWords (g .table)) v ≡ false
       unmerged v l d = unfold answerTo in marked-unmerged (given-fits g h) v (omega (arith, same-first)) d
 
-  -- The rows replied are the parts of the functions marked 1.
-  pub rows-replied : length (answerTo g .left .book .store) ≡ rowsMarked (problemBy loaded g) (answered g (answerTo g) .marks)
+  -- A mark as written is the sweep's.
+  mark-written : (v : ℕ) → v < vertexCount there → getD (answerTo g .left .marks) v 0 ≡ getD (answered g (answerTo g) .marks) v 0
+  unfolding answered
+  mark-written v l = sym (List·getD-append marks (drop (length marks) (g .marks)) 0 v (omega (arith, long, count)))
+
+  same-function : (v : ℕ) → functionOf here v ≡ functionOf there v
+  unfolding problemOf
+  same-function v = rw (s .functions, s .inputs) refl
+
+  -- The rows are the parts of the functions marked 1.
+  pub rows-replied : RowsKept loaded g (answered g (answerTo g)) (length (answerTo g .left .book .store))
   unfolding answerTo
   rows-replied = rows-counted (given-fits g h) ∙ ap together (functions-marked (is 1))
 
-  -- The steps replied are those of the ANDs marked 1 or 2, but after Rows and Steps.
-  pub steps-replied : ((v : ℕ) → Names (answerTo g .verdict) v → ⊥)
-      → answerTo g .left .book .steps ≡ stepsMarked (problemBy loaded g) (graphWords loaded) (answered g (answerTo g) .marks)
+  -- The steps are those of the ANDs marked 1 or 2, where the verdict names no vertex.
+  pub steps-replied : ((v : ℕ) → Names (answerTo g .verdict) v → ⊥) → StepsKept loaded g (answered g (answerTo g)) (answerTo g .left .book .steps)
   unfolding answerTo
   steps-replied unnamed = steps-counted (given-fits g h) unnamed ∙ steps-marked (isEither 1 2) refl
 
@@ -170,58 +192,62 @@ module _ (g : Given) (h : refusalOf g ≡ 0) {loaded : List ℕ} (s : Since load
   same-right : literalFunction here (here .right) ≡ outputFunction (graphOf loaded) 2 (g .output)
   same-right = right-literal (g .table) (g .output) (g .limits) ∙ same-output 2
 
-  -- After Equal the output has one function on both sides.
-  pub equal-replied : answerTo g .verdict ≡ equal → outputFunction (graphOf loaded) 1 (g .output) ≡ outputFunction (graphOf loaded) 2 (g .output)
+  -- After equal the output has one function on both sides.
+  pub equal-replied : answerTo g .verdict ≡ equal → SameFunction loaded (g .output)
   unfolding answerTo
   equal-replied e = sym same-left ∙ equal-right (given-fits g h) e ∙ same-right
 
-  -- After Different the setting is the first on which the two differ.
+  -- After different the setting is the first on which the two differ.
   pub different-replied : (t : Setting) → answerTo g .verdict ≡ different t
       → FirstDifference (inputsOf loaded) (outputFunction (graphOf loaded) 1 (g .output)) (outputFunction (graphOf loaded) 2 (g .output)) t
   unfolding answerTo
   different-replied t e = rw (← same-left, ← same-right, ← s .inputs) (unfold problemOf in different-right (given-fits g h) t e)
 
-  -- After Size some made vertex is larger than the size limit.
+  -- After Size some AND is marked 2, each marked 2 is larger than the size limit, and the others are at rest.
   pub size-replied : answerTo g .verdict ≡ undecided Size
-      → (i : ℕ) × (i < madeOf loaded)
-      × (g .limits .size < size (getD (functionsOf (graphOf loaded)) (1 + inputsOf loaded + i) (constantly (inputsOf loaded) false)))
+      → AfterSize (problemBy loaded g) (answered g (answerTo g) .marks) (graphWords (answered g (answerTo g) .table))
   unfolding answerTo
   size-replied e =
       let d = size-some (given-fits g h) e in
-      let v : ℕ = d .0 in
-      let made : 1 + inputsOf loaded ≤ v = unfold problemOf in omega (arith, two-made (given-fits g h) v (d .2), s .inputs) in
-      let place : 1 + inputsOf loaded + (v - (1 + inputsOf loaded)) ≡ v = omega arith in (
-        v - (1 + inputsOf loaded),
-        omega (arith, d .1, same-count, count),
-        rw (place, ← s .functions, ← s .inputs) (unfold problemOf in two-large (given-fits g h) v (d .2)),
-      )
+      record {
+        vertex = d .0;
+        made = omega (arith, two-made (given-fits g h) (d .0) (d .2), same-first);
+        there = omega (arith, d .1, same-count);
+        mark = sym (mark-written (d .0) (omega (arith, d .1, same-count))) ∙ d .2;
+        large = λ v l m. rw (← same-function v) (unfold problemOf in two-large (given-fits g h) v (mark-written v l ∙ m));
+        at-rest = rest-alike same-first same-count (sym (given-rows g h)) first-few mark-written (after-rest (given-fits g h) (inl e));
+      }
+
+  -- A vertex that the verdict names is the one marked 3.
+  named-replied : (v : ℕ) → Names (answerTo g .verdict) v → Marked3 (problemBy loaded g) (answered g (answerTo g) .marks) v
+  unfolding answerTo
+  named-replied v n =
+      let m : getD (answerTo g .left .marks) v 0 ≡ 3 = three-named (given-fits g h) v .0 n in
+      let l : v < vertexCount there = omega (arith, mark-within marks v (λ z. omega arith), long, count) in
+      record { there = l; mark = sym (mark-written v l) ∙ m; only = λ u k e. names-one (three-named (given-fits g h) u .1 (mark-written u k ∙ e)) n }
 
   -- After Rows the functions marked 1 or 3 have more parts than the row limit.
-  pub rows-short : (v : ℕ) → answerTo g .verdict ≡ undecided (Rows v)
-      → g .limits .rows < rowsMarkedWithLast (problemBy loaded g) (answered g (answerTo g) .marks)
-  unfolding answerTo
+  pub rows-short : (v : ℕ) → answerTo g .verdict ≡ undecided (Rows v) → AfterRows (problemBy loaded g) (answered g (answerTo g) .marks) v
+  unfolding answerTo problemOf
   rows-short v e =
-      subst (λ (n : ℕ). g .limits .rows < n) (ap together (functions-marked (isEither 1 3))) (unfold problemOf in rows-passed (given-fits g h) v e)
+      record {
+        named = named-replied v (rw e by-rows);
+        passed =
+            subst (λ (n : ℕ). here .limits .rows < n) (ap together (functions-marked (isEither 1 3))) (rows-passed (given-fits g h) v e);
+      }
 
-  module _ (v : ℕ) (e : answerTo g .verdict ≡ undecided (Steps v)) where
-    -- After Steps the steps are the limit,
-    pub steps-spent : answerTo g .left .book .steps ≡ g .limits .steps
-    unfolding answerTo problemOf
-    steps-spent = steps-full (given-fits g h) v e
+  -- After Steps the steps are the limit, and with the vertex marked 3 the ANDs marked take more.
+  pub steps-short : (v : ℕ) → answerTo g .verdict ≡ undecided (Steps v)
+      → AfterSteps (problemBy loaded g) (graphWords loaded) (answered g (answerTo g) .marks) v (answerTo g .left .book .steps)
+  unfolding answerTo problemOf
+  steps-short v e =
+      record {
+        named = named-replied v (rw e by-steps);
+        spent = steps-full (given-fits g h) v e;
+        passed = subst (λ (n : ℕ). here .limits .steps < n) (steps-marked (λ m. isEither 1 2 m || is 3 m) refl) (steps-passed (given-fits g h) v e);
+      }
 
-    -- and all ANDs of the table as loaded take more.
-    pub steps-short : g .limits .steps < sum (map andSteps (andsOf (problemBy loaded g) (graphWords loaded)))
-    unfolding answerTo
-    steps-short =
-        let taken : ℕ = sum (map andSteps (marked either (drop (there .first) written) (andsOf there (graphWords loaded)))) in
-        let more : g .limits .steps < taken =
-        subst (λ (n : ℕ). g .limits .steps < n) (steps-marked either refl) (unfold problemOf in steps-passed (given-fits g h) v e)
-        in omega (arith, sum-fewer either andSteps (drop (there .first) written) (andsOf there (graphWords loaded)))
-      where
-        either : ℕ → Bool
-        either m = isEither 1 2 m || is 3 m
-
-  -- Idle is never replied.
+  -- Idle is never said.
   pub idle-unsaid : answerTo g .verdict ≢ undecided Idle
   unfolding answerTo
   idle-unsaid = never-idle (given-fits g h)

@@ -12,12 +12,12 @@ use Rattle.aig.specs.Pairs.{SamePair, straight}
 use Rattle.comparer.proofs.GraphLaws.{count-vertices, fits, literalIn}
 use Rattle.comparer.proofs.LeftLaws.{Swept, accepted-left, functions-left, graph-left, inputs-left, made-left, output-left, outputs-left}
 use Rattle.comparer.proofs.RefusalLaws.{compared-answered, compared-refused, passed}
+use Rattle.comparer.specs.Claims.{problemBy}
 use Rattle.comparer.specs.Compare.{Given, answerTo, answered, compared, graphWords, problemOf, refusalOf, turnedBack}
 use Rattle.sweep_model.proofs.Kept.{operands-kept, sweep-steady}
 use Rattle.sweep_model.proofs.Steady.{Steady}
 use Rattle.sweep_model.specs.Fit.{Fit, vertexCount}
 use Rattle.sweep_model.specs.Normalise.{merged?}
-use Rattle.sweep_model.specs.State.{Problem}
 use Rattle.table.specs.Accepted.{Accepted}
 use Rattle.table.specs.Table.{functionsOf, graphOf, inputsOf, madeOf, outputFunction, outputsOf, verticesOf}
 use Rattle.truth.proofs.Booleans.{clash, not-true}
@@ -50,10 +50,6 @@ since-loaded h =
       output = λ side k l. refl;
       operands = λ v l m e. straight refl refl;
     }
-
--- The problem of a comparison, by a table.
-abbrev pub problemBy : List ℕ → Given → Problem
-problemBy table g = problemOf table (g .output) (g .limits)
 
 -- A comparison that is not refused.
 module _ (g : Given) (h : refusalOf g ≡ 0) where

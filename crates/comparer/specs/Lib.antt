@@ -1,3 +1,4 @@
+pub mod Claims
 pub mod Code
 pub mod Compare
 pub mod Passed

@@ -63,7 +63,7 @@ pub record Ended (p : Problem) (entry : List ℕ) (x : Verdict) (s : State) : Ty
   pub some-large : x ≡ undecided Size → SomeLarge p (s .marks)
 
 -- A verdict names one vertex at most.
-names-one : {x : Verdict} {u v : ℕ} → Names x u → Names x v → u ≡ v
+pub names-one : {x : Verdict} {u v : ℕ} → Names x u → Names x v → u ≡ v
 names-one by-rows by-rows = refl
 names-one by-steps by-steps = refl
 

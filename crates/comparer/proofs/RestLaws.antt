@@ -1,0 +1,57 @@
+-- What holds at rest by some marks and rows holds by others that agree with them on every vertex.
+use mathlib.Core.List.{List}
+use mathlib.Core.Logic.{inl, inr, ⊎-elim}
+use mathlib.Core.Path.{_∙_, _≡_, sym}
+use Prim.Native.Nat.{_<_, _≤_, ℕ}
+use native.Mathlib.Omega.{arith}
+use lib.ListN.{getD}
+use Rattle.sweep_model.specs.Claims.{AtRest, Excused, Made, Stuck, TookOne, by-first, by-merging, by-second, by-taking}
+
+-- Two lists of marks agree on so many vertices.
+record SameMarks (count : ℕ) (marks other : List ℕ) : Type 0 where
+  same : (v : ℕ) → v < count → getD marks v 0 ≡ getD other v 0
+
+turned : {count : ℕ} {marks other : List ℕ} → SameMarks count marks other → SameMarks count other marks
+turned a = record { same = λ v l. sym (a .same v l) }
+
+module _ {first count : ℕ} {rows operands marks other : List ℕ} (a : SameMarks count marks other) where
+  made-alike : {v : ℕ} → Made first count marks rows operands v → Made first count other rows operands v
+  made-alike m = record { made = m .made; there = m .there }
+
+  took-alike : {v : ℕ} → TookOne first count marks rows operands v → TookOne first count other rows operands v
+  took-alike t =
+      record {
+        other = t .other;
+        made = made-alike (t .made);
+        mark = sym (a .same (t .other) (t .made .there)) ∙ t .mark;
+        merged = t .merged;
+        into = t .into;
+      }
+
+module _ {first count : ℕ} {rows operands marks other : List ℕ} (a : SameMarks count marks other) where
+  stuck-alike : {v : ℕ} → Stuck first count marks rows operands v → Stuck first count other rows operands v
+  stuck-alike {v} k =
+      record {
+        made = made-alike a (k .made);
+        unmerged = k .unmerged;
+        mark =
+            ⊎-elim (λ e. inl (sym (a .same v (k .made .there)) ∙ e)) (λ e. inr (sym (a .same v (k .made .there)) ∙ e .0, λ t. e .1 (took-alike (turned a) t))) (k .mark);
+      }
+
+  excused-alike : {v : ℕ} → Excused first count marks rows operands v → Excused first count other rows operands v
+  excused-alike (by-merging e) = by-merging e
+  excused-alike (by-taking t) = by-taking (took-alike a t)
+  excused-alike (by-first k) = by-first (stuck-alike k)
+  excused-alike (by-second k) = by-second (stuck-alike k)
+
+  marks-alike : first ≤ count → AtRest first count marks rows operands → AtRest first count other rows operands
+  marks-alike few r =
+      record {
+        inputs = λ v l m. sym (a .same v (omega arith)) ∙ r .inputs v l m;
+        ands = λ v m e. excused-alike (r .ands v (made-alike (turned a) m) (a .same v (m .there) ∙ e));
+      }
+
+-- The rows, and what bounds the vertices, may be written otherwise too.
+pub rest-alike : {first count first′ count′ : ℕ} {marks other rows rows′ : List ℕ} → first ≡ first′ → count ≡ count′ → rows ≡ rows′ → first′ ≤ count′
+    → ((v : ℕ) → v < count′ → getD marks v 0 ≡ getD other v 0) → AtRest first count marks rows rows → AtRest first′ count′ other rows′ rows′
+rest-alike f c e few same r = marks-alike (record { same = same }) few (rw (f, c, e) at r)
