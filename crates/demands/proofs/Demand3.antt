@@ -63,4 +63,4 @@ module _ {d e : Netlist} (h : Loadable d e) (old : List ℕ) where
 
 -- Demand 3.
 pub demand3 : Demand3
-demand3 left right room tally d e old last calls a l r n ran = holds (loaded-files left right room tally d e a l r) old ran
+demand3 left right room tally d e old last calls a l r ran = holds (loaded-files left right room tally d e a l r) old ran

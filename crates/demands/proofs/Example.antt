@@ -2,7 +2,7 @@
 use mathlib.Core.List.{List, [], _∷_}
 use mathlib.Core.Path.{_≡_, refl}
 use Prim.Native.Nat.{ℕ}
-use lib.ListN.{drop, length-replicate}
+use lib.ListN.{drop}
 use Rattle.aig.specs.Fold.{foldOf}
 use Rattle.aig.specs.Lookup.{firstVertex, ownWords}
 use Rattle.comparer.specs.Compare.{answerTo, answered, beyond?, compared, graphWords, outside?, problemOf, refusalOf, settingBytes, settingLeft, shortSlice?, tableLeft, turnedBack}
@@ -12,7 +12,7 @@ use Rattle.demands.specs.Demand3.{Holds, Ran}
 use Rattle.demands.specs.Example.{Example, after, before, firstCall, oneGate, otherFile, secondCall, sixSteps, sizeOne, thirdCall}
 use Rattle.loader.specs.Build.{askAnd, askGate, askGates, buildFile, buildPair, emptyBuild, foldedOrNot, foundOrMade, literalsFrom}
 use Rattle.loader.specs.Cards.{andFile, room}
-use Rattle.loader.specs.Load.{countsDiffer?, loadResult, maxTable, readResult, tableOf, tableWords, tallyOf}
+use Rattle.loader.specs.Load.{countsDiffer?, loadResult, readResult, tableOf, tableWords, tallyOf}
 use Rattle.loader.specs.Load.{shortSlice? as shortLoad?}
 use Rattle.loader.specs.declared.Loaded.the-variants.{Accepted}
 use Rattle.netlist.specs.Check.{checkFile, checkFrom, finish, gateStep, gatesIn, headerStep, outputStep, outputsIn, read, readBy, readNetlist}
@@ -79,7 +79,6 @@ example =
       loaded = accepts;
       left = reads-left;
       right = reads-right;
-      long = length-replicate {A = ℕ} maxTable 0;
       ran = Ran.next refl refl (Ran.next refl refl (Ran.next refl refl Ran.none));
       first-reply = rw table (computed .first-reply);
       first-setting = rw table (computed .first-setting);
@@ -91,4 +90,4 @@ example =
 pub example-holds : Holds (oneGate And) (oneGate Or) after (firstCall ∷ secondCall ∷ thirdCall ∷ []) (thirdCall .left .table)
 example-holds =
     demand3 andFile otherFile room (record { asked = 2; folded = 0; found = 0; made = 2 }) (oneGate And) (oneGate Or) before (thirdCall .left .table)
-    (firstCall ∷ secondCall ∷ thirdCall ∷ []) (example .loaded) (example .left) (example .right) (example .long) (example .ran)
+    (firstCall ∷ secondCall ∷ thirdCall ∷ []) (example .loaded) (example .left) (example .right) (example .ran)

@@ -9,6 +9,7 @@ use lib.ListN.{List·getD-map, getD, length, length-map}
 use lib.Seq.{ext-getD}
 use borrow.Author.Tests.{eq-eqb, ne-eqb}
 use Rattle.comparer.proofs.GraphLaws.{count-vertices, made-row}
+use Rattle.comparer.proofs.ReplyLaws.{sum-fewer}
 use Rattle.comparer.specs.Compare.{graphWords, problemOf}
 use Rattle.demands.specs.Claims.{TooLarge, TooManyParts, TooManySteps, gatesAnds, sideValue}
 use Rattle.loader.proofs.AndLaws.{made-function, made-parts, rows-from, rows-total}
@@ -108,21 +109,26 @@ module _ (d e : Netlist) (h : Loadable d e) (old : List ℕ) where
   unfolding graphOf
   function-value side k s l m = value-output (graphOf loaded) s (omega (arith, table-inputs)) side k ∙ table-value side k s l m
 
-  -- A made vertex larger than a limit is such an AND of the gates.
-  pub too-large : (limit i : ℕ) → i < madeOf (tableOf d e old)
-      → limit < size (getD (functionsOf (graphOf (tableOf d e old))) (1 + inputsOf (tableOf d e old) + i) (constantly (inputsOf (tableOf d e old)) false))
-      → TooLarge d e limit
-  unfolding gatesAnds graphOf rowOperands
-  too-large limit i l m =
-      let rows = rows-from d e (h .inputs) (h .outputs) old in
-      record {
-        place = placeIn rows i;
-        there = place-within rows i (simp (length-map, length-rows) l);
-        large = rw (← made-function d e (h .inputs) (h .outputs) old i (omega (arith, length-rows loaded)) (constantly 0 false, constantly 0 false)) m;
-      }
-
   abbrev function : ℕ → Truth
   function v = getD (functionsOf (graphOf loaded)) v (constantly (inputsOf loaded) false)
+
+  -- A made vertex larger than a limit is such an AND of the gates.
+  pub too-large : (limit v : ℕ) → 1 + inputsOf (tableOf d e old) ≤ v → v < length (functionsOf (graphOf (tableOf d e old)))
+      → limit < size (getD (functionsOf (graphOf (tableOf d e old))) v (constantly (inputsOf (tableOf d e old)) false))
+      → TooLarge d e limit
+  unfolding gatesAnds graphOf rowOperands
+  too-large limit v made there m =
+      let rows = rows-from d e (h .inputs) (h .outputs) old in
+      let i : ℕ = v - (1 + inputsOf loaded) in
+      let z : v ≡ 1 + inputsOf loaded + i = omega arith in
+      let l : i < length (rowsOf loaded) = omega (arith, length-functions (graphOf loaded)) in
+      record {
+        place = placeIn rows i;
+        there = place-within rows i (simp length-map l);
+        large =
+            rw (← made-function d e (h .inputs) (h .outputs) old i l (constantly 0 false, constantly 0 false))
+            (subst (λ (u : ℕ). limit < size (function u)) z m);
+      }
 
   abbrev ins : List Truth
   ins = inputsFrom (d .inputs) 1 (d .inputs)
@@ -167,13 +173,14 @@ module _ (d e : Netlist) (h : Loadable d e) (old : List ℕ) where
             vertex-part t (x .0) (x .1) (x .3)),
       )
 
-  -- Rows that take more steps than a limit: all gates' ANDs take more.
-  pub too-many-steps : (limit output : ℕ) (limits : Limits)
-      → limit < sum (map andSteps (andsOf (problemOf (tableOf d e old) output limits) (graphWords (tableOf d e old)))) → TooManySteps d e limit
+  -- Marked ANDs that take more steps than a limit: all gates' ANDs take more.
+  pub too-many-steps : (limit output : ℕ) (limits : Limits) (test : ℕ → Bool) (marks : List ℕ)
+      → limit < sum (map andSteps (marked test marks (andsOf (problemOf (tableOf d e old) output limits) (graphWords (tableOf d e old))))) → TooManySteps d e limit
   unfolding gatesAnds
-  too-many-steps limit output limits l =
+  too-many-steps limit output limits test marks l =
       omega (
         arith,
+        sum-fewer test andSteps marks (andsOf (problemOf loaded output limits) (graphWords loaded)),
         ap (λ (xs : List And). sum (map andSteps xs)) (rows-ands loaded output limits),
         sum-total (rowOperands (graphOf loaded)),
         rows-total d e (h .inputs) (h .outputs) old steps steps-symmetric,

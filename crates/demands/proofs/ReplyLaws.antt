@@ -1,35 +1,27 @@
--- Each reply kept what demand 3 says of it.
+-- Each reply kept what demand 3 says of it: what is said of the table as loaded is said of the files.
+use mathlib.Core.Bool.{_||_}
 use mathlib.Core.List.{List, _++_}
-use mathlib.Core.Path.{_∙_, _≡_, ap, refl, subst, sym}
+use mathlib.Core.Path.{_∙_, _≡_, ap, refl, sym}
 use Prim.Native.Nat.{_<_, ℕ}
 use native.Mathlib.Decide.{ℕ-discrete}
 use native.Mathlib.Omega.{arith}
 use lib.ListN.{drop, length, length-map}
-use Rattle.comparer.proofs.RefusalLaws.{compared-answered, compared-refused, passed}
-use Rattle.comparer.proofs.ReplyLaws.{different-replied, equal-replied, idle-unsaid, rows-replied, rows-short, size-replied, steps-replied, steps-short, steps-spent}
+use Rattle.comparer.proofs.ClaimLaws.{reply-says}
+use Rattle.comparer.proofs.RefusalLaws.{compared-refused, passed}
 use Rattle.comparer.proofs.Since.{Since}
-use Rattle.comparer.specs.Compare.{Given, answerTo, answered, compared, problemOf, refusalOf, settingBytes, settingLeft, turnedBack}
+use Rattle.comparer.specs.Claims.{Differs, ReplySays, SameFunction}
+use Rattle.comparer.specs.Compare.{Given, compared, problemOf, refusalOf, settingBytes, turnedBack}
 use Rattle.demands.proofs.FileLaws.{function-value, table-inputs, table-outputs, too-large, too-many-parts, too-many-steps}
-use Rattle.demands.specs.Claims.{Agree, ReplyKept, Separated, StepsKept, sideValue}
+use Rattle.demands.specs.Claims.{Agree, ReplyKept, Separated, sideValue}
 use Rattle.loader.specs.Load.{tableOf}
 use Rattle.loader.specs.Loadable.{Loadable}
 use Rattle.netlist.specs.Netlist.{Netlist}
-use Rattle.sweep_model.specs.Claims.{Names, isEither}
-use Rattle.sweep_model.specs.Reply.{countsOf, replyOf, replyWith}
-use Rattle.sweep_model.specs.Sweep.{Verdict, different, equal, undecided}
+use Rattle.sweep_model.specs.Claims.{is, isEither}
 use Rattle.sweep_model.specs.declared.Cause.the-variants.{Idle, Rows, Size, Steps}
+use Rattle.sweep_model.specs.declared.Reply.{Reply}
+use Rattle.sweep_model.specs.declared.Reply.the-variants.{Different, Equal, Refused, Undecided}
 use Rattle.table.specs.Table.{graphOf, outputFunction}
 use Rattle.truth.specs.Truth.{Setting, Truth, valueAt}
-
--- Neither Equal nor Different nor Size names a vertex.
-equal-unnamed : (v : ℕ) → Names equal v → ⊥
-equal-unnamed v n = elim n [ ]
-
-different-unnamed : {t : Setting} (v : ℕ) → Names (different t) v → ⊥
-different-unnamed v n = elim n [ ]
-
-size-unnamed : (v : ℕ) → Names (undecided Size) v → ⊥
-size-unnamed v n = elim n [ ]
 
 module _ {d e : Netlist} (h : Loadable d e) (old : List ℕ) (g : Given) (s : Since (tableOf d e old) (g .table)) where
   abbrev loaded : List ℕ
@@ -43,51 +35,41 @@ module _ {d e : Netlist} (h : Loadable d e) (old : List ℕ) (g : Given) (s : Si
     value : (side : ℕ) (t : Setting) → length t ≡ d .inputs → valueAt (outputFunction (graphOf loaded) side (g .output)) t ≡ sideValue d e side (g .output) t
     value side t l = function-value d e h old side (g .output) t inside l
 
-    agree : answerTo g .verdict ≡ equal → Agree d e (g .output)
+    agree : SameFunction loaded (g .output) → Agree d e (g .output)
     unfolding sideValue
-    agree x t l =
-        sym (value 1 t l) ∙ ap (λ (f : Truth). valueAt f t) (equal-replied g r s x) ∙ value 2 t l
+    agree x t l = sym (value 1 t l) ∙ ap (λ (f : Truth). valueAt f t) x ∙ value 2 t l
 
-    separated : (t : Setting) → answerTo g .verdict ≡ different t → Separated d e (g .output) (g .setting) (settingLeft (different t) (g .setting))
-    unfolding sideValue settingLeft settingBytes
-    separated t x =
-        let f = different-replied g r s t x in
-        let l : length t ≡ d .inputs = f .digits ∙ table-inputs d e h old in
+    separated : {after : List ℕ} → Differs loaded (g .output) (g .setting) after → Separated d e (g .output) (g .setting) after
+    unfolding sideValue settingBytes
+    separated x =
+        let t = x .setting in
+        let l : length t ≡ d .inputs = x .first .digits ∙ table-inputs d e h old in
         record {
           setting = t;
           digits = l;
-          written = ap (λ (n : ℕ). settingBytes t ++ drop n (g .setting)) (length-map t _ ∙ l);
-          differ = λ k. f .differ (value 1 t l ∙ k ∙ sym (value 2 t l));
-          first = λ u m n. sym (value 1 u m) ∙ f .first u (m ∙ sym (table-inputs d e h old)) n ∙ value 2 u m;
+          written = x .written ∙ ap (λ (n : ℕ). settingBytes t ++ drop n (g .setting)) (length-map t _ ∙ l);
+          differ = λ k. x .first .differ (value 1 t l ∙ k ∙ sym (value 2 t l));
+          first = λ u m n. sym (value 1 u m) ∙ x .first .first u (m ∙ sym (table-inputs d e h old)) n ∙ value 2 u m;
         }
 
-    steps-kept : (x : Verdict) → answerTo g .verdict ≡ x → ((v : ℕ) → Names x v → ⊥)
-        → StepsKept loaded g (answered g (answerTo g)) (answerTo g .left .book .steps)
-    steps-kept x k unnamed = steps-replied g r s (λ v n. unnamed v (subst (λ (y : Verdict). Names y v) k n))
-
-    -- Whatever the sweep says.
-    pub answered-kept : (x : Verdict) → answerTo g .verdict ≡ x
-        → ReplyKept d e (tableOf d e old) g (answered g (answerTo g)) (replyWith x (countsOf (answerTo g .left)))
-    unfolding replyWith
-    answered-kept equal k = (r, agree k, rows-replied g r s, steps-kept equal k equal-unnamed)
-    answered-kept (different t) k =
-        (r, rw written (separated t k), rows-replied g r s, steps-kept (different t) k different-unnamed)
-      where
-        written : answered g (answerTo g) .setting ≡ settingLeft (different t) (g .setting)
-        written = unfold answered in ap (λ (x : Verdict). settingLeft x (g .setting)) k
-    answered-kept (undecided Size) k =
-        let big = size-replied g r s k in
-        (r, rows-replied g r s, (too-large d e h old (g .limits .size) (big .0) (big .1) (big .2), steps-kept (undecided Size) k size-unnamed))
-    answered-kept (undecided (Rows v)) k =
-        (r, rows-replied g r s, too-many-parts d e h old (g .limits .rows) (isEither 1 3) (answered g (answerTo g) .marks) (unfold problemOf in rows-short g r s v k))
-    answered-kept (undecided (Steps v)) k =
-        (r, rows-replied g r s, (too-many-steps d e h old (g .limits .steps) (g .output) (g .limits) (steps-short g r s v k), steps-spent g r s v k))
-    answered-kept (undecided Idle) k = absurd (idle-unsaid g r s k)
+    -- What is said of a reply by the table as loaded, by the files.
+    pub said-kept : (x : Reply) → ReplySays (tableOf d e old) g (compared g) x → ReplyKept d e (tableOf d e old) g (compared g) x
+    unfolding problemOf
+    said-kept (Refused n) k = absurd k
+    said-kept (Equal c) k = (r, agree (k .0), k .1, k .2)
+    said-kept (Different c) k = (r, separated (k .0), k .1, k .2)
+    said-kept (Undecided Size c) k =
+        let z = k .1 .0 in
+        (r, k .0, (too-large d e h old (g .limits .size) (z .vertex) (z .made) (z .there) (z .large (z .vertex) (z .there) (z .mark)), k .1 .1))
+    said-kept (Undecided (Rows v) c) k = (r, k .0, too-many-parts d e h old (g .limits .rows) (isEither 1 3) (compared g .marks) (k .1 .passed))
+    said-kept (Undecided (Steps v) c) k =
+        (r, k .0, (too-many-steps d e h old (g .limits .steps) (g .output) (g .limits) (λ m. isEither 1 2 m || is 3 m) _ (k .1 .passed), k .1 .spent))
+    said-kept (Undecided Idle c) k = absurd (k .1)
 
   -- Refused or not.
   pub reply-kept : ReplyKept d e (tableOf d e old) g (compared g) (compared g .reply)
   reply-kept =
       elim (ℕ-discrete (refusalOf g) 0) [
-        | yes r ↦ rw (compared-answered g r) (unfold answered replyOf in answered-kept r (answerTo g .verdict) refl)
+        | yes r ↦ said-kept r (compared g .reply) (reply-says g r s)
         | no r ↦ rw (compared-refused g r) (unfold turnedBack in (refl, r, refl, refl, refl))
       ]

@@ -6,11 +6,11 @@ use mathlib.Core.Path.{_≡_}
 use Prim.Native.Nat.{_<_, ℕ}
 use lib.Dec.{eqb}
 use lib.ListN.{drop, getD, length}
-use Rattle.comparer.specs.Compare.{Given, Left, graphWords, problemOf, refusalOf, settingBytes}
+use Rattle.comparer.specs.Claims.{RowsKept, StepsKept, problemBy}
+use Rattle.comparer.specs.Compare.{Given, Left, graphWords, refusalOf, settingBytes}
 use Rattle.netlist.specs.Meaning.{fileAnds, fileValue}
 use Rattle.netlist.specs.Netlist.{Netlist}
-use Rattle.sweep_model.specs.Claims.{AfterIdle, And, AtRest, andFunction, andSteps, rowsMarked, stepsMarked, sum}
-use Rattle.sweep_model.specs.State.{Problem}
+use Rattle.sweep_model.specs.Claims.{AfterIdle, And, AtRest, andFunction, andSteps, sum}
 use Rattle.sweep_model.specs.declared.Cause.{Cause}
 use Rattle.sweep_model.specs.declared.Cause.the-variants.{Idle, Rows, Size, Steps}
 use Rattle.sweep_model.specs.declared.Reply.{Reply}
@@ -54,24 +54,11 @@ TooManyParts d e limit = limit < together (inputsFrom (d .inputs) 1 (d .inputs) 
 abbrev pub TooManySteps : Netlist → Netlist → ℕ → Type 0
 TooManySteps d e limit = limit < sum (map andSteps (gatesAnds d e))
 
--- "a vertex's function and operands are those of the table as loaded, and limits are those that the comparison in question was given":
--- the problem of a call on the table as loaded.
-abbrev pub loadedProblem : List ℕ → Given → Problem
-loadedProblem loaded given = problemOf loaded (given .output) (given .limits)
-
 -- "as Idle only under the conditions that document 01 sets after Idle"
 pub record IdleAs (loaded : List ℕ) (given : Given) (left : Left) : Type 0 where
-  pub at-rest : AtRest (loadedProblem loaded given .first) (length (loadedProblem loaded given .functions)) (left .marks)
+  pub at-rest : AtRest (problemBy loaded given .first) (length (problemBy loaded given .functions)) (left .marks)
       (graphWords (left .table)) (graphWords loaded)
-  pub after-idle : AfterIdle (loadedProblem loaded given) (left .marks)
-
--- "A reply's rows are the number of distinct parts of the functions it marked 1."
-abbrev pub RowsKept : List ℕ → Given → Left → ℕ → Type 0
-RowsKept loaded given left rows = rows ≡ rowsMarked (loadedProblem loaded given) (left .marks)
-
--- "Its steps are the sum of document 01's product steps over the ANDs it marked 1 or 2"
-abbrev pub StepsKept : List ℕ → Given → Left → ℕ → Type 0
-StepsKept loaded given left steps = steps ≡ stepsMarked (loadedProblem loaded given) (graphWords loaded) (left .marks)
+  pub after-idle : AfterIdle (problemBy loaded given) (left .marks)
 
 -- What is said of each cause, and of the steps with it: "unless it said Rows or Steps; after Steps they are the limit".
 abbrev pub CauseKept : Netlist → Netlist → List ℕ → Given → Left → Cause → ℕ → Type 0

@@ -2,7 +2,6 @@
 use mathlib.Core.List.{List}
 use mathlib.Core.Path.{_≡_}
 use Prim.Native.Nat.{ℕ}
-use lib.ListN.{length}
 use Rattle.comparer.specs.Compare.{refusalOf}
 use Rattle.demands.specs.Claims.{Agree, TooLarge, TooManyParts, TooManySteps}
 use Rattle.demands.specs.Demand3.{Call, Each, Ran}
@@ -30,6 +29,6 @@ pub data Decided (d e : Netlist) (k : ℕ) : Reply → Type 0 where
 abbrev pub Complete : Type 0
 Complete =
     (left right : List ℕ) (room : Room) (tally : Tally) (d e : Netlist) (old last : List ℕ) (calls : List Call)
-    → loadResult left right room ≡ Accepted tally → readNetlist left ≡ read d → readNetlist right ≡ read e → length old ≡ room .table
+    → loadResult left right room ≡ Accepted tally → readNetlist left ≡ read d → readNetlist right ≡ read e
     → Ran (tableOf d e old) calls last
     → Each (λ c. refusalOf (c .given) ≡ 0 → Suffice d e (c .given .limits) → Decided d e (c .given .output) (c .left .reply)) calls

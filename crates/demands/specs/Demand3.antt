@@ -40,6 +40,6 @@ pub record Holds (d e : Netlist) (loaded : List ℕ) (calls : List Call) (last :
 abbrev pub Demand3 : Type 0
 Demand3 =
     (left right : List ℕ) (room : Room) (tally : Tally) (d e : Netlist) (old last : List ℕ) (calls : List Call)
-    → loadResult left right room ≡ Accepted tally → readNetlist left ≡ read d → readNetlist right ≡ read e → length old ≡ room .table
+    → loadResult left right room ≡ Accepted tally → readNetlist left ≡ read d → readNetlist right ≡ read e
     → Ran (tableOf d e old) calls last
     → Holds d e (tableOf d e old) calls last

@@ -2,7 +2,7 @@
 use mathlib.Core.List.{List, [], _∷_}
 use mathlib.Core.Path.{_≡_}
 use Prim.Native.Nat.{ℕ}
-use lib.ListN.{length, replicate}
+use lib.ListN.{replicate}
 use Rattle.comparer.specs.Compare.{Given, compared}
 use Rattle.demands.specs.Cards.{comparisonOf, usual}
 use Rattle.demands.specs.Demand3.{Call, Ran}
@@ -57,7 +57,6 @@ pub record Example : Type 0 where
   pub loaded : loadResult andFile otherFile room ≡ Accepted (record { asked = 2; folded = 0; found = 0; made = 2 })
   pub left : readNetlist andFile ≡ read (oneGate And)
   pub right : readNetlist otherFile ≡ read (oneGate Or)
-  pub long : length before ≡ room .table
   pub ran : Ran after (firstCall ∷ secondCall ∷ thirdCall ∷ []) (thirdCall .left .table)
   pub first-reply : firstCall .left .reply ≡ Different (record { rows = 4; steps = 6 })
   pub first-setting : firstCall .left .setting ≡ 48 ∷ 49 ∷ []
