@@ -11,7 +11,7 @@ use Rattle.aig.proofs.OwnLaws.{length-own}
 use Rattle.aig.specs.Literal.{vertexOf}
 use Rattle.aig.specs.Lookup.{ownWords, withRow}
 use Rattle.comparer.proofs.LeftLaws.{left-words, length-header, length-made}
-use Rattle.comparer.specs.Compare.{graphWords, overFront, tableLeft}
+use Rattle.comparer.specs.Compare.{graphWords, outputsLeft, overFront, tableLeft}
 use Rattle.sweep_model.specs.Normalise.{resolve}
 use Rattle.table.specs.Table.{inputsOf, madeOf, outputWords, outputsOf, promised, verticesOf}
 
@@ -150,6 +150,7 @@ module _ (table rows part : List ℕ) (whole : promised (madeOf table) (outputsO
   pub outputs-resolved : (words : List ℕ)
       → words ≡ map (resolve rows) (take (promised (madeOf table) (outputsOf table) - (3 + 2 * madeOf table)) (drop (3 + 2 * madeOf table) (putMid 3 (length table - 3) table part)))
       → putMid (3 + 2 * madeOf table) (promised (madeOf table) (outputsOf table) - (3 + 2 * madeOf table)) (putMid 3 (length table - 3) table part) words ≡ tableLeft table rows
+  unfolding outputsLeft
   outputs-resolved words e =
       let n : promised (madeOf table) (outputsOf table) - from ≡ 2 * outputsOf table = omega arith in
       let after : drop (promised (madeOf table) (outputsOf table) - from) (drop from between) ≡ drop (promised (madeOf table) (outputsOf table)) table =

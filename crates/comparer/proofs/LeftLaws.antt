@@ -9,7 +9,7 @@ use lib.Seq.{drop-at, drop-drop, ext-getD, getD-take, length-take-le, take-at}
 use Rattle.aig.proofs.OwnLaws.{length-own, own-holds}
 use Rattle.aig.specs.Lookup.{Holds, firstWord, ownWords, secondWord}
 use Rattle.comparer.proofs.GraphLaws.{count-vertices, fits, length-graph, literalIn, made-row}
-use Rattle.comparer.specs.Compare.{graphWords, problemOf, tableLeft}
+use Rattle.comparer.specs.Compare.{graphWords, outputsLeft, problemOf, tableLeft}
 use Rattle.sweep_model.proofs.Rows.{resolve-first, resolve-function, resolve-within}
 use Rattle.sweep_model.specs.Fit.{Sound}
 use Rattle.sweep_model.specs.Normalise.{resolve}
@@ -35,13 +35,14 @@ module _ (table : List ℕ) (whole : promised (madeOf table) (outputsOf table) �
   made = drop (2 * (1 + inputsOf table)) rows
 
   abbrev references : List ℕ
-  references = map (resolve rows) (outputWords table)
+  references = outputsLeft table rows
 
   pub length-made : length (drop (2 * (1 + inputsOf table)) rows) ≡ 2 * madeOf table
   length-made = simp length-drop (omega arith)
 
-  length-references : length references ≡ 2 * outputsOf table
-  length-references = length-map (outputWords table) (resolve rows) ∙ length-output-words table whole
+  length-references : length (outputsLeft table rows) ≡ 2 * outputsOf table
+  unfolding outputsLeft
+  length-references = length-map (outputWords table) _ ∙ length-output-words table whole
 
   pub length-header : length (take 3 table) ≡ 3
   length-header = length-take-le 3 table (omega arith)
@@ -51,7 +52,7 @@ module _ (table : List ℕ) (whole : promised (madeOf table) (outputsOf table) �
 
   -- The words, part by part.
   pub left-words : tableLeft table rows
-      ≡ take 3 table ++ (drop (2 * (1 + inputsOf table)) rows ++ (map (resolve rows) (outputWords table) ++ drop (promised (madeOf table) (outputsOf table)) table))
+      ≡ take 3 table ++ (drop (2 * (1 + inputsOf table)) rows ++ (outputsLeft table rows ++ drop (promised (madeOf table) (outputsOf table)) table))
   unfolding tableLeft
   left-words = rw length-written (simp append-assoc)
 
@@ -84,8 +85,8 @@ module _ (table : List ℕ) (whole : promised (madeOf table) (outputsOf table) �
       sym (drop-drop (2 * outputsOf table) (3 + 2 * madeOf table) (tableLeft table rows))
       ∙ rw after-rows (drop-at references _ (2 * outputsOf table) length-references)
 
-  -- Each output is what its vertex became.
-  outputs-became : outputWords (tableLeft table rows) ≡ map (resolve rows) (outputWords table)
+  -- Its output words are those left.
+  outputs-became : outputWords (tableLeft table rows) ≡ outputsLeft table rows
   unfolding outputWords
   outputs-became = rw (made-kept, outputs-kept, after-rows) (take-at references _ (2 * outputsOf table) length-references)
 
@@ -114,6 +115,11 @@ output-literal : (table : List ℕ) (side k : ℕ) → k < outputsOf table
     → outputFunction (graphOf table) side k ≡ literalIn table (getD (outputWords table) (sideStart table side + k) 0)
 unfolding outputFunction graphOf
 output-literal table side k h = rw (graph-outputs table side, side-output-word table side k h)
+
+-- What a literal of a table became: it names a vertex, and has the same function.
+record LiteralKept (table : List ℕ) (old new : ℕ) : Type 0 where
+  within : new < 2 * verticesOf table
+  function : literalIn table new ≡ literalIn table old
 
 -- Rows that a sweep of an accepted table leaves: two words a vertex, and each vertex has its function.
 pub record Swept (table : List ℕ) (output : ℕ) (limits : Limits) (rows : List ℕ) : Type 0 where
@@ -167,15 +173,28 @@ module _ {table : List ℕ} {output : ℕ} {limits : Limits} {rows : List ℕ} (
         second = swept .sound .downward .second-below (first + i) (omega arith) (omega arith);
       })
 
-  became : (j : ℕ) → getD (outputWords left) j 0 ≡ resolve rows (getD (outputWords table) j 0)
-  unfolding problemOf
-  became j =
-      rw (outputs-became table whole rows two-each)
-      (ap (getD (map (resolve rows) (outputWords table)) j) (sym (resolve-first (swept .sound .downward) 0 (omega arith)))
-      ∙ List·getD-map (resolve rows) (outputWords table) j 0)
-
   reference-below : (j : ℕ) → j < 2 * outputsOf table → getD (outputWords table) j 0 < 2 * verticesOf table
   reference-below j h = swept .accepted .references j (omega (arith, length-output-words table whole))
+
+  -- What a literal became keeps its function.
+  resolve-kept : (r : ℕ) → r < 2 * verticesOf table → LiteralKept table r (resolve rows r)
+  unfolding problemOf
+  resolve-kept r l =
+      let c = count-vertices table output limits in
+      record {
+        within = resolve-within (swept .sound .downward) r (verticesOf table) (omega arith) l;
+        function =
+            resolve-function (problemOf table output limits) (fits table output limits (swept .accepted) (swept .looked-at) .well-formed) (swept .sound) r (rw c l);
+      }
+
+  -- Every output keeps its function.
+  output-kept : (j : ℕ) → j < 2 * outputsOf table → LiteralKept table (getD (outputWords table) j 0) (getD (outputsLeft table rows) j 0)
+  unfolding outputsLeft problemOf
+  output-kept j h =
+      subst (LiteralKept table (getD (outputWords table) j 0))
+      (sym (List·getD-map (resolve rows) (outputWords table) j 0)
+      ∙ ap (getD (outputsLeft table rows) j) (resolve-first (swept .sound .downward) 0 (omega arith)))
+      (resolve-kept (getD (outputWords table) j 0) (reference-below j h))
 
   -- The table left is accepted again.
   pub accepted-left : Accepted (tableLeft table rows)
@@ -192,16 +211,9 @@ module _ {table : List ℕ} {output : ℕ} {limits : Limits} {rows : List ℕ} (
             };
         rows = λ i h. rw inputs-left (below-left i (omega (arith, length-rows left, made-left)));
         references = λ j h.
-            let c = count-vertices table output limits in
             let l : j < 2 * outputsOf table =
-            omega (
-              arith,
-              length-map (outputWords table) (resolve rows),
-              ap length (outputs-became table whole rows two-each),
-              length-output-words table whole,
-            ) in
-            rw (became j, inputs-left, made-left)
-            (resolve-within (swept .sound .downward) (getD (outputWords table) j 0) (verticesOf table) (omega arith) (reference-below j l));
+            omega (arith, ap length (outputs-became table whole rows two-each), length-references table whole rows two-each) in
+            rw (outputs-became table whole rows two-each, inputs-left, made-left) (output-kept j l .within);
       }
 
   -- Every vertex has the function that it had.
@@ -218,12 +230,8 @@ module _ {table : List ℕ} {output : ℕ} {limits : Limits} {rows : List ℕ} (
 
   -- So has every output of both sides.
   pub output-left : (side k : ℕ) → k < outputsOf table → outputFunction (graphOf (tableLeft table rows)) side k ≡ outputFunction (graphOf table) side k
-  unfolding problemOf
   output-left side k h =
-      let c = count-vertices table output limits in
       let j : sideStart table side + k < 2 * outputsOf table = omega (arith, side-start-bound table side) in
       output-literal left side k (omega (arith, outputs-left))
-      ∙ rw (functions-left, inputs-left, outputs-left, became (sideStart table side + k))
-      (resolve-function (problemOf table output limits) (fits table output limits (swept .accepted) (swept .looked-at) .well-formed) (swept .sound)
-      (getD (outputWords table) (sideStart table side + k) 0) (rw c (reference-below (sideStart table side + k) j)))
+      ∙ rw (functions-left, inputs-left, outputs-left, outputs-became table whole rows two-each) (output-kept (sideStart table side + k) j .function)
       ∙ sym (output-literal table side k h)

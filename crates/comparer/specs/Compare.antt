@@ -100,11 +100,13 @@ answerTo g = sweep (problemOf (g .table) (g .output) (g .limits)) (graphWords (g
 abbrev pub overFront : List ℕ → List ℕ → List ℕ
 overFront new old = new ++ drop (length new) old
 
--- The table with the rows that the sweep left, and each output "replaced by what [its vertex was] merged into"; its header and the
--- words after it stay.
+-- The outputs of both sides, each "replaced by what [its vertex was] merged into".
+unfoldable pub outputsLeft : List ℕ → List ℕ → List ℕ
+outputsLeft table rows = map (resolve rows) (outputWords table)
+
+-- The table with the rows that the sweep left, and these outputs; its header and the words after it stay.
 unfoldable pub tableLeft : List ℕ → List ℕ → List ℕ
-tableLeft table rows =
-    overFront (take 3 table ++ (drop (2 * (1 + inputsOf table)) rows ++ map (resolve rows) (outputWords table))) table
+tableLeft table rows = overFront (take 3 table ++ (drop (2 * (1 + inputsOf table)) rows ++ outputsLeft table rows)) table
 
 -- "one byte an input, 48 or 49"
 unfoldable pub settingBytes : Setting → List ℕ

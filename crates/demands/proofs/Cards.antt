@@ -4,7 +4,7 @@ use mathlib.Core.Path.{_≡_, refl}
 use lib.ListN.{drop, replicate}
 use Rattle.aig.specs.Fold.{foldOf}
 use Rattle.aig.specs.Lookup.{firstVertex, ownWords}
-use Rattle.comparer.specs.Compare.{answerTo, answered, beyond?, compared, graphWords, outside?, problemOf, refusalOf, settingBytes, settingLeft, tableLeft, turnedBack}
+use Rattle.comparer.specs.Compare.{answerTo, answered, beyond?, compared, graphWords, outputsLeft, outside?, problemOf, refusalOf, settingBytes, settingLeft, tableLeft, turnedBack}
 use Rattle.comparer.specs.Compare.{shortSlice? as slices?}
 use Rattle.demands.specs.Cards.{Cards, Replying, loadedTable, outputFile}
 use Rattle.loader.proofs.Cards.{loading}
@@ -35,7 +35,7 @@ unfolding checkFile checkFrom finish gateStep gatesIn headerStep outputStep outp
 tables = record { and-or = refl; inverse = refl; constants = refl }
 
 replying : Replying
-unfolding answerTo answered beyond? compared graphWords outside? problemOf refusalOf settingBytes settingLeft slices? tableLeft turnedBack outputWords pairs rowsOf sideOutputs malformed? beyondLimits? outOfOrder? downward? allBelow? rowBelow? graphOf functionsOf firstFunctions inputsFrom firstRefusal vertexValues conj invert constantly input sweep answerOf start look lookAt andThen begin normalise normaliseFrom normaliseRow foldedRow foundRow resolve takesFrom takeAt wakeAt wake has? gone? replyOf replyWith foldOf firstVertex ownWords
+unfolding answerTo answered beyond? compared graphWords outputsLeft outside? problemOf refusalOf settingBytes settingLeft slices? tableLeft turnedBack outputWords pairs rowsOf sideOutputs malformed? beyondLimits? outOfOrder? downward? allBelow? rowBelow? graphOf functionsOf firstFunctions inputsFrom firstRefusal vertexValues conj invert constantly input sweep answerOf start look lookAt andThen begin normalise normaliseFrom normaliseRow foldedRow foundRow resolve takesFrom takeAt wakeAt wake has? gone? replyOf replyWith foldOf firstVertex ownWords
 replying =
     record {
       and-or-reply = rw (tables .and-or) refl;

@@ -5,7 +5,7 @@ use Prim.Native.Nat.{ℕ}
 use lib.ListN.{drop}
 use Rattle.aig.specs.Fold.{foldOf}
 use Rattle.aig.specs.Lookup.{firstVertex, ownWords}
-use Rattle.comparer.specs.Compare.{answerTo, answered, beyond?, compared, graphWords, outside?, problemOf, refusalOf, settingBytes, settingLeft, shortSlice?, tableLeft, turnedBack}
+use Rattle.comparer.specs.Compare.{answerTo, answered, beyond?, compared, graphWords, outputsLeft, outside?, problemOf, refusalOf, settingBytes, settingLeft, shortSlice?, tableLeft, turnedBack}
 use Rattle.demands.proofs.Demand3.{demand3}
 use Rattle.demands.specs.Cards.{comparisonOf, usual}
 use Rattle.demands.specs.Demand3.{Holds, Ran}
@@ -69,7 +69,7 @@ record Computed : Type 0 where
   third-reply : compared (comparisonOf 0 sizeOne words) .reply ≡ Undecided Size (record { rows = 2; steps = 6 })
 
 computed : Computed
-unfolding answerTo answered beyond? compared graphWords outside? problemOf refusalOf settingBytes settingLeft shortSlice? tableLeft turnedBack outputWords pairs rowsOf sideOutputs malformed? beyondLimits? outOfOrder? downward? allBelow? rowBelow? graphOf functionsOf firstFunctions inputsFrom firstRefusal vertexValues conj constant? constantly input invert same? sweep answerOf anyDropped? cause conclude giveRow go goFor meet multiply openAt pickFrom ready? scanFrom smaller swept topPart turnsLeft turnsOf twinFrom visit dropVertex giveInputs start look lookAt andThen begin normalise normaliseFrom normaliseRow foldedRow foundRow resolve takesFrom takeAt wakeAt wake has? gone? bare? dropped? open? waits? replyOf replyWith foldOf firstVertex ownWords _andThen_ addPart addRow countStep plain run among distinct filter alike? cofactors depends? parts size terminal? firstDifference valueAt words
+unfolding answerTo answered beyond? compared graphWords outputsLeft outside? problemOf refusalOf settingBytes settingLeft shortSlice? tableLeft turnedBack outputWords pairs rowsOf sideOutputs malformed? beyondLimits? outOfOrder? downward? allBelow? rowBelow? graphOf functionsOf firstFunctions inputsFrom firstRefusal vertexValues conj constant? constantly input invert same? sweep answerOf anyDropped? cause conclude giveRow go goFor meet multiply openAt pickFrom ready? scanFrom smaller swept topPart turnsLeft turnsOf twinFrom visit dropVertex giveInputs start look lookAt andThen begin normalise normaliseFrom normaliseRow foldedRow foundRow resolve takesFrom takeAt wakeAt wake has? gone? bare? dropped? open? waits? replyOf replyWith foldOf firstVertex ownWords _andThen_ addPart addRow countStep plain run among distinct filter alike? cofactors depends? parts size terminal? firstDifference valueAt words
 computed = record { first-reply = refl; first-setting = refl; first-table = refl; second-reply = refl; second-table = refl; third-reply = refl }
 
 -- It is met.
