@@ -1,5 +1,5 @@
 -- The table that a comparison leaves: the same header, length and words after the graph, the sweep's rows, and every output as what it became.
-use mathlib.Core.List.{List, _++_, append-assoc, map}
+use mathlib.Core.List.{List, _++_, append-assoc}
 use mathlib.Core.Path.{_∙_, _≡_, ap, ap₂, subst, sym}
 use Prim.Native.Nat.{_%_, _*_, _+_, _/_, _<_, _≤_, ℕ}
 use native.Mathlib.Decide.{ℕ-discrete}

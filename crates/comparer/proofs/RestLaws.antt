@@ -11,13 +11,16 @@ use Rattle.sweep_model.specs.Claims.{AtRest, Excused, Made, Stuck, TookOne, by-
 record SameMarks (count : ℕ) (marks other : List ℕ) : Type 0 where
   same : (v : ℕ) → v < count → getD marks v 0 ≡ getD other v 0
 
+-- The same the other way round.
 turned : {count : ℕ} {marks other : List ℕ} → SameMarks count marks other → SameMarks count other marks
 turned a = record { same = λ v l. sym (a .same v l) }
 
 module _ {first count : ℕ} {rows operands marks other : List ℕ} (a : SameMarks count marks other) where
+  -- An AND is one by both.
   made-alike : {v : ℕ} → Made first count marks rows operands v → Made first count other rows operands v
   made-alike m = record { made = m .made; there = m .there }
 
+  -- One marked 1 was merged into it by both.
   took-alike : {v : ℕ} → TookOne first count marks rows operands v → TookOne first count other rows operands v
   took-alike t =
       record {
@@ -29,21 +32,24 @@ module _ {first count : ℕ} {rows operands marks other : List ℕ} (a : SameMar
       }
 
 module _ {first count : ℕ} {rows operands marks other : List ℕ} (a : SameMarks count marks other) where
+  -- It is stuck by both,
   stuck-alike : {v : ℕ} → Stuck first count marks rows operands v → Stuck first count other rows operands v
   stuck-alike {v} k =
+      let m : getD other v 0 ≡ getD marks v 0 = sym (a .same v (k .made .there)) in
       record {
         made = made-alike a (k .made);
         unmerged = k .unmerged;
-        mark =
-            ⊎-elim (λ e. inl (sym (a .same v (k .made .there)) ∙ e)) (λ e. inr (sym (a .same v (k .made .there)) ∙ e .0, λ t. e .1 (took-alike (turned a) t))) (k .mark);
+        mark = ⊎-elim (λ e. inl (m ∙ e)) (λ e. inr (m ∙ e .0, λ t. e .1 (took-alike (turned a) t))) (k .mark);
       }
 
+  -- has its excuse by both,
   excused-alike : {v : ℕ} → Excused first count marks rows operands v → Excused first count other rows operands v
   excused-alike (by-merging e) = by-merging e
   excused-alike (by-taking t) = by-taking (took-alike a t)
   excused-alike (by-first k) = by-first (stuck-alike k)
   excused-alike (by-second k) = by-second (stuck-alike k)
 
+  -- and so all are at rest by both.
   marks-alike : first ≤ count → AtRest first count marks rows operands → AtRest first count other rows operands
   marks-alike few r =
       record {
