@@ -1,10 +1,10 @@
 -- Words that stand for themselves.
+use Prim.Native.Nat.{_*_, _+_, _<_, suc, zero, ℕ}
+use Rattle.aig.specs.Lookup.{Holds, ownWords}
+use lib.ListN.{getD, length}
 use mathlib.Core.List.{List, _∷_}
 use mathlib.Core.Path.{_≡_, ap, refl, _∙_}
-use Prim.Native.Nat.{_*_, _+_, _<_, suc, zero, ℕ}
 use native.Mathlib.Omega.{arith}
-use lib.ListN.{getD, length}
-use Rattle.aig.specs.Lookup.{Holds, ownWords}
 
 -- Each vertex holds its own literal twice.
 pub own-holds : (v n i : ℕ) → i < n → Holds (ownWords v n) i (2 * (v + i)) (2 * (v + i))

@@ -1,11 +1,6 @@
 -- Each reply of a comparison that is not refused keeps what the paper says of it. Each law goes by the sweep's verdict: where another
 -- reply is given there is nothing to show.
-use mathlib.Core.Bool.{Bool, false, true}
-use mathlib.Core.List.{List}
-use mathlib.Core.Logic.{_≢_}
-use mathlib.Core.Path.{_∙_, _≡_, ap, refl, subst, subst₂, sym}
 use Prim.Native.Nat.{ℕ}
-use native.Mathlib.Omega.{arith}
 use Rattle.comparer.proofs.RefusalLaws.{compared-answered}
 use Rattle.comparer.proofs.ReplyLaws.{different-replied, equal-replied, idle-unsaid, rows-replied, rows-short, size-replied, steps-replied, steps-short}
 use Rattle.comparer.proofs.Since.{Since}
@@ -16,9 +11,14 @@ use Rattle.sweep_model.specs.Reply.{replyOf, replyWith}
 use Rattle.sweep_model.specs.Sweep.{Verdict, different, equal, undecided}
 use Rattle.sweep_model.specs.declared.Cause.the-variants.{Idle, Rows, Size, Steps}
 use Rattle.sweep_model.specs.declared.Counts.{Counts}
-use Rattle.sweep_model.specs.declared.Reply.{Reply}
 use Rattle.sweep_model.specs.declared.Reply.the-variants.{Different, Equal, Refused, Undecided}
+use Rattle.sweep_model.specs.declared.Reply.{Reply}
 use Rattle.truth.proofs.Booleans.{clash}
+use mathlib.Core.Bool.{Bool, false, true}
+use mathlib.Core.List.{List}
+use mathlib.Core.Logic.{_≢_}
+use mathlib.Core.Path.{_∙_, _≡_, ap, refl, subst, subst₂, sym}
+use native.Mathlib.Omega.{arith}
 
 -- Two replies that are not one.
 other-reply : {A : Type 0} → _≡_ {A = ℕ} 0 1 → A

@@ -1,9 +1,5 @@
 -- What compare gives back and leaves, refused or not, is the comparison.
-use mathlib.Core.List.{List, _++_}
-use mathlib.Core.Logic.{_≢_}
-use mathlib.Core.Path.{_∙_, _≡_, ap, ap₂, sym}
 use Prim.Native.Nat.{_*_, ℕ}
-use lib.ListN.{length, take}
 use Rattle.comparer.proofs.RefusalLaws.{compared-answered, compared-refused}
 use Rattle.comparer.specs.Code.{left}
 use Rattle.comparer.specs.Compare.{Given, answerTo, answered, callTests, compared, refusalOf, settingLeft, tableLeft, turnedBack}
@@ -13,10 +9,14 @@ use Rattle.sweep.specs.Ending.{verdictOf}
 use Rattle.sweep.specs.declared.Ended.{Ended}
 use Rattle.sweep_model.specs.Reply.{countsOf, replyOf, replyWith}
 use Rattle.sweep_model.specs.Sweep.{Verdict}
-use Rattle.sweep_model.specs.declared.Reply.{Reply}
 use Rattle.sweep_model.specs.declared.Reply.the-variants.{Refused}
+use Rattle.sweep_model.specs.declared.Reply.{Reply}
 use Rattle.table.specs.Refusals.{firstRefusal}
 use Rattle.table.specs.Table.{inputsOf, tableTests, verticesOf}
+use lib.ListN.{length, take}
+use mathlib.Core.List.{List, _++_}
+use mathlib.Core.Logic.{_≢_}
+use mathlib.Core.Path.{_∙_, _≡_, ap, ap₂, sym}
 
 module _ (g : Given) where
   -- The first refusal, by the lengths of the slices.

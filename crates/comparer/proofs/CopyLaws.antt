@@ -1,12 +1,5 @@
 -- Words written over the front of a list, one more at a time, and the parts of a table.
-use mathlib.Core.List.{List, [], _++_, _∷_, append-assoc, append-nil, map}
-use mathlib.Core.Path.{_∙_, _≡_, ap, ap₂, refl, subst, sym}
 use Prim.Native.Nat.{_*_, _+_, _-_, _<_, _≤_, suc, zero, ℕ}
-use native.Mathlib.Numerals.{add-one}
-use native.Mathlib.Omega.{arith}
-use lib.ListN.{drop, drop-of-length-le, getD, length, length-append, length-drop, length-map, set, take}
-use lib.Seq.{append-snoc, drop-at, drop-cons, drop-drop, drop-length, getD-at, length-take-le, set-at, take-all, take-at, take-length, take-suc}
-use borrow.Rule.Slice.PartMut.{putMid}
 use Rattle.aig.proofs.OwnLaws.{length-own}
 use Rattle.aig.specs.Literal.{vertexOf}
 use Rattle.aig.specs.Lookup.{ownWords, withRow}
@@ -14,6 +7,13 @@ use Rattle.comparer.proofs.LeftLaws.{left-words, length-header, length-
 use Rattle.comparer.specs.Compare.{graphWords, outputsLeft, overFront, tableLeft}
 use Rattle.sweep_model.specs.Normalise.{resolve}
 use Rattle.table.specs.Table.{inputsOf, madeOf, outputWords, outputsOf, promised, verticesOf}
+use borrow.Rule.Slice.PartMut.{putMid}
+use lib.ListN.{drop, drop-of-length-le, getD, length, length-append, length-drop, length-map, set, take}
+use lib.Seq.{append-snoc, drop-at, drop-cons, drop-drop, drop-length, getD-at, length-take-le, set-at, take-all, take-at, take-length, take-suc}
+use mathlib.Core.List.{List, [], _++_, _∷_, append-assoc, append-nil, map}
+use mathlib.Core.Path.{_∙_, _≡_, ap, ap₂, refl, subst, sym}
+use native.Mathlib.Numerals.{add-one}
+use native.Mathlib.Omega.{arith}
 
 -- A word stored right after the front becomes its last.
 pub front-more : (xs old : List ℕ) (i a : ℕ) → length xs ≡ i → i < length old → set (xs ++ drop i old) i a ≡ (xs ++ (a ∷ [])) ++ drop (i + 1) old

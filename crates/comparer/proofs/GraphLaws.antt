@@ -1,11 +1,5 @@
 -- The rows and the problem that a table gives the sweep.
-use mathlib.Core.Bool.{false}
-use mathlib.Core.List.{List, _++_}
-use mathlib.Core.Path.{_∙_, _≡_, ap, ap₂, subst, sym}
 use Prim.Native.Nat.{_*_, _+_, _-_, _<_, _≤_, ℕ}
-use native.Mathlib.Omega.{arith}
-use lib.ListN.{List·getD-append, drop, getD, length, length-append, length-drop, length-take, take}
-use lib.Seq.{getD-append-add, getD-drop, getD-take}
 use Rattle.aig.proofs.OwnLaws.{length-own, own-holds}
 use Rattle.aig.specs.Lookup.{Holds, firstWord, ownWords, secondWord}
 use Rattle.aig.specs.Values.{literalValue}
@@ -19,6 +13,12 @@ use Rattle.table.specs.Accepted.{Accepted}
 use Rattle.table.specs.Table.{functionsOf, graphOf, inputsOf, madeOf, outputFunction, outputsOf, promised, verticesOf}
 use Rattle.table.specs.Values.{rowValue}
 use Rattle.truth.specs.Truth.{Truth, conj, constantly, invert}
+use lib.ListN.{List·getD-append, drop, getD, length, length-append, length-drop, length-take, take}
+use lib.Seq.{getD-append-add, getD-drop, getD-take}
+use mathlib.Core.Bool.{false}
+use mathlib.Core.List.{List, _++_}
+use mathlib.Core.Path.{_∙_, _≡_, ap, ap₂, subst, sym}
+use native.Mathlib.Omega.{arith}
 
 -- The function of a literal of a table.
 abbrev pub literalIn : List ℕ → ℕ → Truth

@@ -1,11 +1,5 @@
 -- The table that a comparison leaves: the same header, length and words after the graph, the sweep's rows, and every output as what it became.
-use mathlib.Core.List.{List, _++_, append-assoc}
-use mathlib.Core.Path.{_∙_, _≡_, ap, ap₂, subst, sym}
 use Prim.Native.Nat.{_%_, _*_, _+_, _/_, _<_, _≤_, ℕ}
-use native.Mathlib.Decide.{ℕ-discrete}
-use native.Mathlib.Omega.{arith}
-use lib.ListN.{List·getD-append, List·getD-map, drop, getD, length, length-append, length-drop, length-map, take, take-append-drop}
-use lib.Seq.{drop-at, drop-drop, ext-getD, getD-take, length-take-le, take-at}
 use Rattle.aig.proofs.OwnLaws.{length-own, own-holds}
 use Rattle.aig.specs.Lookup.{Holds, firstWord, ownWords, secondWord}
 use Rattle.comparer.proofs.GraphLaws.{count-vertices, fits, length-graph, literalIn, made-row}
@@ -18,6 +12,12 @@ use Rattle.table.proofs.FunctionLaws.{function-first, functions-unique, length-
 use Rattle.table.proofs.LayoutLaws.{graph-outputs, length-output-words, length-rows, row-at, side-output-word, side-start-bound}
 use Rattle.table.specs.Accepted.{Accepted, RowBelow}
 use Rattle.table.specs.Table.{functionsOf, graphOf, inputsOf, madeOf, outputFunction, outputWords, outputsOf, promised, rowsOf, sideStart, verticesOf}
+use lib.ListN.{List·getD-append, List·getD-map, drop, getD, length, length-append, length-drop, length-map, take, take-append-drop}
+use lib.Seq.{drop-at, drop-drop, ext-getD, getD-take, length-take-le, take-at}
+use mathlib.Core.List.{List, _++_, append-assoc}
+use mathlib.Core.Path.{_∙_, _≡_, ap, ap₂, subst, sym}
+use native.Mathlib.Decide.{ℕ-discrete}
+use native.Mathlib.Omega.{arith}
 
 -- Two lists of words that agree vertex by vertex agree word by word.
 words-agree : (rows other : List ℕ) (n : ℕ) → ((v : ℕ) → v < n → Holds other v (firstWord rows v) (secondWord rows v)) → (i : ℕ) → i < 2 * n

@@ -1,13 +1,5 @@
 -- A comparison is refused, or every bound holds and the sweep answers.
-use mathlib.Core.Bool.{Bool, _||_, false, not}
-use mathlib.Core.List.{List, [], _∷_}
-use mathlib.Core.Logic.{_≢_}
-use mathlib.Core.Path.{_∙_, _≡_, sym}
 use Prim.Native.Nat.{_*_, ℕ}
-use native.Mathlib.Omega.{arith}
-use lib.Dec.{leb, ltb}
-use lib.ListN.{length}
-use borrow.Author.Tests.{eq-eqb, leb-false, leb-true, ltb-false, ne-eqb, not-false}
 use Rattle.comparer.specs.Compare.{Given, Room, answerTo, answered, beyond?, compared, maxRows, maxSteps, outside?, refusalOf, shortSlice?, turnedBack}
 use Rattle.comparer.specs.Passed.{Enough, LimitsWithin, Passed, Within}
 use Rattle.sweep_model.specs.State.{Limits}
@@ -15,6 +7,14 @@ use Rattle.table.proofs.AcceptedLaws.{accepted}
 use Rattle.table.proofs.RefusalLaws.{first-passed, neither, none-applies, table-passed}
 use Rattle.table.specs.Refusals.{Test}
 use Rattle.table.specs.Table.{inputsOf, outputsOf, tableTests, verticesOf}
+use borrow.Author.Tests.{eq-eqb, leb-false, leb-true, ltb-false, ne-eqb, not-false}
+use lib.Dec.{leb, ltb}
+use lib.ListN.{length}
+use mathlib.Core.Bool.{Bool, _||_, false, not}
+use mathlib.Core.List.{List, [], _∷_}
+use mathlib.Core.Logic.{_≢_}
+use mathlib.Core.Path.{_∙_, _≡_, sym}
+use native.Mathlib.Omega.{arith}
 
 limit-within : (most n : ℕ) → outside? most n ≡ false → Within most n
 unfolding outside?

@@ -1,13 +1,5 @@
 -- What the verdict of a comparison that is not refused says, in terms of the table as loaded.
-use mathlib.Core.Bool.{Bool, _||_, cond, false, true}
-use mathlib.Core.List.{List, [], _++_, _∷_, map}
-use mathlib.Core.Logic.{_≢_, inl}
-use mathlib.Core.Path.{_∙_, _≡_, ap, ap₂, refl, subst, sym}
 use Prim.Native.Nat.{_+_, _-_, _<_, _≤_, suc, ℕ}
-use native.Mathlib.Decide.{decLt}
-use native.Mathlib.Omega.{arith}
-use lib.ListN.{List·getD-append, List·getD-eq-default, drop, getD, length, length-drop}
-use lib.Seq.{drop-append-le, getD-drop}
 use Rattle.comparer.proofs.GraphLaws.{count-vertices, left-literal, right-literal}
 use Rattle.comparer.proofs.RefusalLaws.{passed}
 use Rattle.comparer.proofs.RestLaws.{rest-alike}
@@ -32,6 +24,14 @@ use Rattle.truth.proofs.Booleans.{clash}
 use Rattle.truth.specs.Parts.{together}
 use Rattle.truth.specs.Settings.{FirstDifference}
 use Rattle.truth.specs.Truth.{Setting}
+use lib.ListN.{List·getD-append, List·getD-eq-default, drop, getD, length, length-drop}
+use lib.Seq.{drop-append-le, getD-drop}
+use mathlib.Core.Bool.{Bool, _||_, cond, false, true}
+use mathlib.Core.List.{List, [], _++_, _∷_, map}
+use mathlib.Core.Logic.{_≢_, inl}
+use mathlib.Core.Path.{_∙_, _≡_, ap, ap₂, refl, subst, sym}
+use native.Mathlib.Decide.{decLt}
+use native.Mathlib.Omega.{arith}
 
 module _ {A : Type 0} (test : ℕ → Bool) where
   -- Marks past the last thing do not count.

@@ -1,11 +1,11 @@
 -- What holds at rest by some marks and rows holds by others that agree with them on every vertex.
+use Prim.Native.Nat.{_<_, _≤_, ℕ}
+use Rattle.sweep_model.specs.Claims.{AtRest, Excused, Made, Stuck, TookOne, by-first, by-merging, by-second, by-taking}
+use lib.ListN.{getD}
 use mathlib.Core.List.{List}
 use mathlib.Core.Logic.{inl, inr, ⊎-elim}
 use mathlib.Core.Path.{_∙_, _≡_, sym}
-use Prim.Native.Nat.{_<_, _≤_, ℕ}
 use native.Mathlib.Omega.{arith}
-use lib.ListN.{getD}
-use Rattle.sweep_model.specs.Claims.{AtRest, Excused, Made, Stuck, TookOne, by-first, by-merging, by-second, by-taking}
 
 -- Two lists of marks agree on so many vertices.
 record SameMarks (count : ℕ) (marks other : List ℕ) : Type 0 where

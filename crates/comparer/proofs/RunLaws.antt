@@ -1,10 +1,5 @@
 -- What the sweep is asked where no refusal applies, and what its end says of the comparison.
-use mathlib.Core.List.{List, _++_}
-use mathlib.Core.Path.{_∙_, _≡_, ap, refl, sym}
 use Prim.Native.Nat.{_*_, _<_, _≤_, ℕ}
-use native.Mathlib.Omega.{arith}
-use lib.ListN.{drop, length, length-append, take}
-use lib.Seq.{length-take-le, take-all, take-at}
 use Rattle.bdd.proofs.StoreLaws.{store-length}
 use Rattle.comparer.proofs.GraphLaws.{count-vertices, fits, length-graph}
 use Rattle.comparer.specs.Code.{given, limitsOf, roomOfLists}
@@ -25,6 +20,11 @@ use Rattle.sweep_model.specs.Sweep.{Answer, sweep}
 use Rattle.table.specs.Accepted.{Accepted}
 use Rattle.table.specs.Table.{functionsOf, graphOf, outputsOf, verticesOf}
 use Rattle.truth.specs.Truth.{Truth}
+use lib.ListN.{drop, length, length-append, take}
+use lib.Seq.{length-take-le, take-all, take-at}
+use mathlib.Core.List.{List, _++_}
+use mathlib.Core.Path.{_∙_, _≡_, ap, refl, sym}
+use native.Mathlib.Omega.{arith}
 
 -- A table and limits that pass, the task, and the pairs with the table's rows copied to their front.
 module _ (table : List ℕ) (output : ℕ) (limits : Limits) (accepted : Accepted table) (known : output < outputsOf table)

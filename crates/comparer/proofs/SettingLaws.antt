@@ -1,9 +1,5 @@
 -- The bytes of a setting, and what is left of the setting slice.
-use mathlib.Core.Bool.{Bool, cond, false, true}
-use mathlib.Core.List.{List, [], _++_, _∷_}
-use mathlib.Core.Path.{_≡_, ap, refl}
 use Prim.Native.Nat.{suc, zero, ℕ}
-use lib.ListN.{drop, length, length-map, length-replicate, replicate}
 use Rattle.bdd.proofs.DiagramLaws.{denote-perfect}
 use Rattle.bdd.specs.Diagram.{denote}
 use Rattle.bdd.specs.Difference.{digits}
@@ -11,6 +7,10 @@ use Rattle.comparer.specs.Compare.{settingBytes, settingLeft}
 use Rattle.sweep_model.specs.Sweep.{different}
 use Rattle.truth.specs.Settings.{firstDifference}
 use Rattle.truth.specs.Truth.{Perfect, Setting, Truth, halves, same?, whole}
+use lib.ListN.{drop, length, length-map, length-replicate, replicate}
+use mathlib.Core.Bool.{Bool, cond, false, true}
+use mathlib.Core.List.{List, [], _++_, _∷_}
+use mathlib.Core.Path.{_≡_, ap, refl}
 
 -- There is one byte an input.
 length-bytes : (s : Setting) → length (settingBytes s) ≡ length s

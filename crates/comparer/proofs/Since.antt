@@ -1,11 +1,6 @@
 -- What holds of a table since it was loaded, whatever comparisons it went through: every vertex and every output has its function, and a
 -- row that is not (x, x) has its operands' functions. It is kept because the sweep keeps them and a refusal changes nothing.
-use mathlib.Core.Bool.{false}
-use mathlib.Core.List.{List}
-use mathlib.Core.Path.{_∙_, _≡_, refl}
 use Prim.Native.Nat.{_+_, _<_, _≤_, ℕ}
-use native.Mathlib.Decide.{ℕ-discrete}
-use native.Mathlib.Omega.{arith}
 use Rattle.aig.proofs.PairsLaws.{pair-then}
 use Rattle.aig.specs.Lookup.{firstWord, secondWord}
 use Rattle.aig.specs.Pairs.{SamePair, straight}
@@ -21,6 +16,11 @@ use Rattle.sweep_model.specs.Normalise.{merged?}
 use Rattle.table.specs.Accepted.{Accepted}
 use Rattle.table.specs.Table.{functionsOf, graphOf, inputsOf, madeOf, outputFunction, outputsOf, verticesOf}
 use Rattle.truth.proofs.Booleans.{clash, not-true}
+use mathlib.Core.Bool.{false}
+use mathlib.Core.List.{List}
+use mathlib.Core.Path.{_∙_, _≡_, refl}
+use native.Mathlib.Decide.{ℕ-discrete}
+use native.Mathlib.Omega.{arith}
 
 -- Vertex v has in both lists of rows operands of the same functions, up to order.
 abbrev pub SameOperands : List ℕ → List ℕ → List ℕ → ℕ → Type 0

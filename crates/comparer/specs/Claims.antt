@@ -1,20 +1,20 @@
 -- What the paper says of the reply of a comparison that is not refused, in terms of the table as loaded, what the comparison was given
 -- and what it left.
-use mathlib.Core.List.{List}
-use mathlib.Core.Path.{_≡_}
 use Prim.Native.Nat.{_<_, _≤_, ℕ}
-use lib.ListN.{getD, length}
 use Rattle.comparer.specs.Compare.{Given, Left, graphWords, overFront, problemOf, settingBytes}
 use Rattle.sweep_model.specs.Claims.{AtRest, rowsMarked, rowsMarkedWithLast, stepsMarked, stepsMarkedWithLast}
 use Rattle.sweep_model.specs.State.{Problem, functionOf}
-use Rattle.sweep_model.specs.declared.Cause.{Cause}
 use Rattle.sweep_model.specs.declared.Cause.the-variants.{Idle, Rows, Size, Steps}
-use Rattle.sweep_model.specs.declared.Reply.{Reply}
+use Rattle.sweep_model.specs.declared.Cause.{Cause}
 use Rattle.sweep_model.specs.declared.Reply.the-variants.{Different, Equal, Refused, Undecided}
+use Rattle.sweep_model.specs.declared.Reply.{Reply}
 use Rattle.table.specs.Table.{graphOf, inputsOf, outputFunction}
 use Rattle.truth.specs.Parts.{size}
 use Rattle.truth.specs.Settings.{FirstDifference}
 use Rattle.truth.specs.Truth.{Setting}
+use lib.ListN.{getD, length}
+use mathlib.Core.List.{List}
+use mathlib.Core.Path.{_≡_}
 
 -- "a vertex's function and operands are those of the table as loaded, and limits are those that the comparison in question was given":
 -- the problem of a comparison, by a table.

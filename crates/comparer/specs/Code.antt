@@ -1,13 +1,13 @@
 -- What the arguments of compare and what it leaves stand for.
-use mathlib.Core.List.{List}
-use mathlib.Core.Path.{_≡_}
 use Prim.Native.Nat.{ℕ}
-use lib.ListN.{length}
 use Rattle.comparer.specs.Compare.{Given, Left, Room}
 use Rattle.comparer.specs.declared.Limits.{Limits as Asked}
 use Rattle.comparer.specs.declared.refusal.Lengths.{Lengths}
 use Rattle.sweep_model.specs.State.{Limits}
 use Rattle.sweep_model.specs.declared.Reply.{Reply}
+use lib.ListN.{length}
+use mathlib.Core.List.{List}
+use mathlib.Core.Path.{_≡_}
 
 -- The three limits.
 abbrev pub limitsOf : Asked → Limits

@@ -1,19 +1,19 @@
 -- compare: its refusals, and what it gives back and leaves.
-use mathlib.Core.Bool.{Bool, _||_, cond, not}
-use mathlib.Core.List.{List, [], _++_, _∷_, map}
 use Prim.Native.Nat.{_*_, _+_, ℕ}
-use lib.Dec.{eqb, leb, ltb}
-use lib.ListN.{drop, getD, length, take}
 use Rattle.aig.specs.Lookup.{ownWords}
 use Rattle.sweep_model.specs.Normalise.{resolve}
 use Rattle.sweep_model.specs.Reply.{replyOf}
 use Rattle.sweep_model.specs.State.{Limits, Problem}
 use Rattle.sweep_model.specs.Sweep.{Answer, Verdict, different, equal, sweep, undecided}
-use Rattle.sweep_model.specs.declared.Reply.{Reply}
 use Rattle.sweep_model.specs.declared.Reply.the-variants.{Refused}
+use Rattle.sweep_model.specs.declared.Reply.{Reply}
 use Rattle.table.specs.Refusals.{Test, firstRefusal}
 use Rattle.table.specs.Table.{functionsOf, graphOf, inputsOf, madeOf, outputWords, outputsOf, sideOutputs, tableTests, verticesOf}
 use Rattle.truth.specs.Truth.{Setting}
+use lib.Dec.{eqb, leb, ltb}
+use lib.ListN.{drop, getD, length, take}
+use mathlib.Core.Bool.{Bool, _||_, cond, not}
+use mathlib.Core.List.{List, [], _++_, _∷_, map}
 
 -- The lengths of the working slices: four of words, and the rows.
 pub record Room : Type 0 where

@@ -1,10 +1,10 @@
 -- What is known of a comparison that is not refused.
 use Prim.Native.Nat.{_*_, _<_, _≤_, ℕ}
-use lib.ListN.{length}
 use Rattle.comparer.specs.Compare.{Given, Room, maxRows, maxSteps}
 use Rattle.sweep_model.specs.State.{Limits}
 use Rattle.table.specs.Accepted.{Accepted}
 use Rattle.table.specs.Table.{inputsOf, outputsOf, verticesOf}
+use lib.ListN.{length}
 
 -- A limit is from 1 to a most.
 pub record Within (most n : ℕ) : Type 0 where

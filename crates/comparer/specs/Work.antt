@@ -1,8 +1,5 @@
 -- What the parts of a comparison that is not refused give each other: the sweep's task, how it ended, and what follows it.
-use mathlib.Core.List.{List}
-use mathlib.Core.Path.{_≡_}
 use Prim.Native.Nat.{_*_, _≤_, ℕ}
-use lib.ListN.{length, take}
 use Rattle.bdd.specs.Store.{Store}
 use Rattle.comparer.specs.Code.{limitsOf}
 use Rattle.comparer.specs.Compare.{Given, answerTo, maxRows, maxSteps, overFront, problemOf}
@@ -14,6 +11,9 @@ use Rattle.sweep.specs.declared.task.Task.{Task}
 use Rattle.sweep_model.specs.declared.Counts.{Counts}
 use Rattle.table.specs.Accepted.{Accepted}
 use Rattle.table.specs.Table.{functionsOf, graphOf, inputsOf, verticesOf}
+use lib.ListN.{length, take}
+use mathlib.Core.List.{List}
+use mathlib.Core.Path.{_≡_}
 
 -- A task is that of a table's output: with the functions of the table's vertices it poses the comparison's problem.
 pub record Posed (table : List ℕ) (output : ℕ) (limits : Asked) (t : Task) : Type 0 where

@@ -1,7 +1,4 @@
 -- The bench cards, computed.
-use mathlib.Core.List.{_∷_}
-use mathlib.Core.Path.{_≡_, refl}
-use lib.ListN.{drop, replicate}
 use Rattle.aig.specs.Fold.{foldOf}
 use Rattle.aig.specs.Lookup.{firstVertex, ownWords}
 use Rattle.comparer.specs.Compare.{answerTo, answered, beyond?, compared, graphWords, outputsLeft, outside?, problemOf, refusalOf, settingBytes, settingLeft, tableLeft, turnedBack}
@@ -24,6 +21,9 @@ use Rattle.table.specs.Values.{vertexValues}
 use Rattle.text.specs.Numerals.{digitsFrom, numeralOf}
 use Rattle.truth.proofs.Cards.{parts-and-steps}
 use Rattle.truth.specs.Truth.{conj, constantly, input, invert}
+use lib.ListN.{drop, replicate}
+use mathlib.Core.List.{_∷_}
+use mathlib.Core.Path.{_≡_, refl}
 
 record Tables : Type 0 where
   and-or : loadedTable andFile orFile ≡ 2 ∷ 1 ∷ 1 ∷ 2 ∷ 4 ∷ 6 ∷ 6 ∷ drop 7 (replicate maxTable 0)

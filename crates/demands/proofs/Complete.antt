@@ -1,6 +1,4 @@
 -- Limits that suffice decide.
-use mathlib.Core.List.{List}
-use mathlib.Core.Path.{_≡_}
 use Prim.Native.Nat.{ℕ}
 use Rattle.comparer.proofs.ClaimLaws.{reply-says}
 use Rattle.comparer.proofs.Since.{Since}
@@ -13,8 +11,10 @@ use Rattle.loader.specs.Load.{tableOf}
 use Rattle.loader.specs.Loadable.{Loadable}
 use Rattle.netlist.specs.Netlist.{Netlist}
 use Rattle.sweep_model.specs.declared.Cause.the-variants.{Idle, Rows, Size, Steps}
-use Rattle.sweep_model.specs.declared.Reply.{Reply}
 use Rattle.sweep_model.specs.declared.Reply.the-variants.{Different, Equal, Refused, Undecided}
+use Rattle.sweep_model.specs.declared.Reply.{Reply}
+use mathlib.Core.List.{List}
+use mathlib.Core.Path.{_≡_}
 
 module _ {d e : Netlist} (h : Loadable d e) (old : List ℕ) (g : Given) (s : Since (tableOf d e old) (g .table)) (r : refusalOf g ≡ 0)
     (enough : Suffice d e (g .limits)) where

@@ -1,8 +1,5 @@
 -- Demand 3, proved. What holds since the table was loaded is kept by every call, and each reply follows from it.
-use mathlib.Core.List.{List}
-use mathlib.Core.Path.{_∙_, _≡_, ap, subst₂, sym}
 use Prim.Native.Nat.{ℕ}
-use native.Mathlib.Omega.{arith}
 use Rattle.comparer.proofs.Since.{Since, since-compared, since-loaded}
 use Rattle.comparer.specs.Compare.{compared}
 use Rattle.demands.proofs.FileLaws.{function-value, table-inputs, table-outputs}
@@ -20,6 +17,9 @@ use Rattle.netlist.specs.Netlist.{Netlist}
 use Rattle.table.proofs.FunctionLaws.{value-output}
 use Rattle.table.specs.Table.{graphOf}
 use Rattle.truth.specs.Truth.{Truth, valueAt}
+use mathlib.Core.List.{List}
+use mathlib.Core.Path.{_∙_, _≡_, ap, subst₂, sym}
+use native.Mathlib.Omega.{arith}
 
 -- The files of an accepted load.
 pub loaded-files : (left right : List ℕ) (room : Room) (tally : Tally) (d e : Netlist) → loadResult left right room ≡ Accepted tally

@@ -1,8 +1,5 @@
 -- The premises of demand 3 are met, computed from the files' bytes.
-use mathlib.Core.List.{List, [], _∷_}
-use mathlib.Core.Path.{_≡_, refl}
 use Prim.Native.Nat.{ℕ}
-use lib.ListN.{drop}
 use Rattle.aig.specs.Fold.{foldOf}
 use Rattle.aig.specs.Lookup.{firstVertex, ownWords}
 use Rattle.comparer.specs.Compare.{answerTo, answered, beyond?, compared, graphWords, outputsLeft, outside?, problemOf, refusalOf, settingBytes, settingLeft, shortSlice?, tableLeft, turnedBack}
@@ -36,6 +33,9 @@ use Rattle.truth.specs.Parts.{alike?, cofactors, depends?, parts, size}
 use Rattle.truth.specs.Settings.{firstDifference}
 use Rattle.truth.specs.Steps.{terminal?}
 use Rattle.truth.specs.Truth.{conj, constant?, constantly, input, invert, same?, valueAt}
+use lib.ListN.{drop}
+use mathlib.Core.List.{List, [], _∷_}
+use mathlib.Core.Path.{_≡_, refl}
 
 -- The files, read.
 reads-left : readNetlist andFile ≡ read (oneGate And)

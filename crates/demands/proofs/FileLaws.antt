@@ -1,13 +1,5 @@
 -- The table of an accepted load against the files: its outputs' values, and its vertices against the gates' ANDs.
-use mathlib.Core.Bool.{Bool, false, true}
-use mathlib.Core.List.{List, [], _++_, _∷_, map}
-use mathlib.Core.Path.{_∙_, _≡_, ap, ap₂, refl, subst, sym}
 use Prim.Native.Nat.{_+_, _-_, _<_, _≤_, suc, zero, ℕ}
-use native.Mathlib.Decide.{decLt, ℕ-discrete}
-use native.Mathlib.Omega.{arith}
-use lib.ListN.{List·getD-map, getD, length, length-map}
-use lib.Seq.{ext-getD}
-use borrow.Author.Tests.{eq-eqb, ne-eqb}
 use Rattle.comparer.proofs.GraphLaws.{count-vertices, made-row}
 use Rattle.comparer.proofs.ReplyLaws.{sum-fewer}
 use Rattle.comparer.specs.Compare.{graphWords, problemOf}
@@ -39,6 +31,14 @@ use Rattle.truth.specs.Distinct.{among}
 use Rattle.truth.specs.Parts.{alike?, allParts, parts, size, together}
 use Rattle.truth.specs.Steps.{steps}
 use Rattle.truth.specs.Truth.{Setting, Truth, conj, constantly, input, invert, valueAt}
+use borrow.Author.Tests.{eq-eqb, ne-eqb}
+use lib.ListN.{List·getD-map, getD, length, length-map}
+use lib.Seq.{ext-getD}
+use mathlib.Core.Bool.{Bool, false, true}
+use mathlib.Core.List.{List, [], _++_, _∷_, map}
+use mathlib.Core.Path.{_∙_, _≡_, ap, ap₂, refl, subst, sym}
+use native.Mathlib.Decide.{decLt, ℕ-discrete}
+use native.Mathlib.Omega.{arith}
 
 -- The steps of some ANDs add up.
 sum-total : (xs : List And) → sum (map andSteps xs) ≡ total steps xs

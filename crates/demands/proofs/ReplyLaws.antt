@@ -1,11 +1,5 @@
 -- Each reply kept what demand 3 says of it: what is said of the table as loaded is said of the files.
-use mathlib.Core.Bool.{_||_}
-use mathlib.Core.List.{List, _++_}
-use mathlib.Core.Path.{_∙_, _≡_, ap, refl, sym}
 use Prim.Native.Nat.{_<_, ℕ}
-use native.Mathlib.Decide.{ℕ-discrete}
-use native.Mathlib.Omega.{arith}
-use lib.ListN.{drop, length, length-map}
 use Rattle.comparer.proofs.ClaimLaws.{reply-says}
 use Rattle.comparer.proofs.RefusalLaws.{compared-refused, passed}
 use Rattle.comparer.proofs.Since.{Since}
@@ -18,10 +12,16 @@ use Rattle.loader.specs.Loadable.{Loadable}
 use Rattle.netlist.specs.Netlist.{Netlist}
 use Rattle.sweep_model.specs.Claims.{is, isEither}
 use Rattle.sweep_model.specs.declared.Cause.the-variants.{Idle, Rows, Size, Steps}
-use Rattle.sweep_model.specs.declared.Reply.{Reply}
 use Rattle.sweep_model.specs.declared.Reply.the-variants.{Different, Equal, Refused, Undecided}
+use Rattle.sweep_model.specs.declared.Reply.{Reply}
 use Rattle.table.specs.Table.{graphOf, outputFunction}
 use Rattle.truth.specs.Truth.{Setting, Truth, valueAt}
+use lib.ListN.{drop, length, length-map}
+use mathlib.Core.Bool.{_||_}
+use mathlib.Core.List.{List, _++_}
+use mathlib.Core.Path.{_∙_, _≡_, ap, refl, sym}
+use native.Mathlib.Decide.{ℕ-discrete}
+use native.Mathlib.Omega.{arith}
 
 module _ {d e : Netlist} (h : Loadable d e) (old : List ℕ) (g : Given) (s : Since (tableOf d e old) (g .table)) where
   abbrev loaded : List ℕ

@@ -1,9 +1,6 @@
 -- The bench cards marked P: "shown from the definitions, as a group under a common theorem". Those on replies are here, from the bytes of
 -- the files; those on parts and steps and those on loading stand with their definitions.
-use mathlib.Core.List.{List, [], _∷_}
-use mathlib.Core.Path.{_≡_}
 use Prim.Native.Nat.{_*_, ℕ}
-use lib.ListN.{replicate}
 use Rattle.comparer.specs.Compare.{Given, Left, compared}
 use Rattle.loader.specs.Cards.{Loading, andFile, orFile, tableLeft}
 use Rattle.loader.specs.Load.{maxTable, maxVertices}
@@ -11,6 +8,9 @@ use Rattle.sweep_model.specs.State.{Limits}
 use Rattle.sweep_model.specs.declared.Reply.the-variants.{Different, Equal}
 use Rattle.table.specs.Table.{inputsOf, verticesOf}
 use Rattle.truth.specs.Cards.{PartsAndSteps}
+use lib.ListN.{replicate}
+use mathlib.Core.List.{List, [], _∷_}
+use mathlib.Core.Path.{_≡_}
 
 -- `N⇥1⇥n⇥0⇥1`, `O⇥r`, for two digits: a file of one output and no gate.
 abbrev pub outputFile : ℕ → ℕ → List ℕ

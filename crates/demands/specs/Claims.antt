@@ -1,24 +1,24 @@
 -- What the paper claims of a comparison's reply, in terms of the files, the table as loaded, and what the comparison left.
-use mathlib.Core.Bool.{Bool, cond, false}
-use mathlib.Core.List.{List, _++_, map}
-use mathlib.Core.Logic.{_≢_}
-use mathlib.Core.Path.{_≡_}
 use Prim.Native.Nat.{_<_, ℕ}
-use lib.Dec.{eqb}
-use lib.ListN.{drop, getD, length}
 use Rattle.comparer.specs.Claims.{RowsKept, StepsKept, problemBy}
 use Rattle.comparer.specs.Compare.{Given, Left, graphWords, refusalOf, settingBytes}
 use Rattle.netlist.specs.Meaning.{fileAnds, fileValue}
 use Rattle.netlist.specs.Netlist.{Netlist}
 use Rattle.sweep_model.specs.Claims.{AfterIdle, And, AtRest, andFunction, andSteps, sum}
-use Rattle.sweep_model.specs.declared.Cause.{Cause}
 use Rattle.sweep_model.specs.declared.Cause.the-variants.{Idle, Rows, Size, Steps}
-use Rattle.sweep_model.specs.declared.Reply.{Reply}
+use Rattle.sweep_model.specs.declared.Cause.{Cause}
 use Rattle.sweep_model.specs.declared.Reply.the-variants.{Different, Equal, Refused, Undecided}
+use Rattle.sweep_model.specs.declared.Reply.{Reply}
 use Rattle.table.specs.Table.{inputsFrom}
 use Rattle.truth.specs.Parts.{size, together}
 use Rattle.truth.specs.Settings.{numberOf}
 use Rattle.truth.specs.Truth.{Setting, constantly}
+use lib.Dec.{eqb}
+use lib.ListN.{drop, getD, length}
+use mathlib.Core.Bool.{Bool, cond, false}
+use mathlib.Core.List.{List, _++_, map}
+use mathlib.Core.Logic.{_≢_}
+use mathlib.Core.Path.{_≡_}
 
 -- "its file's value": output k of a side's file on a setting. "Inputs and outputs pair by place".
 unfoldable pub sideValue : Netlist → Netlist → ℕ → ℕ → Setting → Bool

@@ -1,6 +1,4 @@
 -- What demand 3 comes to where the limits suffice: every comparison that is not refused decides.
-use mathlib.Core.List.{List}
-use mathlib.Core.Path.{_≡_}
 use Prim.Native.Nat.{ℕ}
 use Rattle.comparer.specs.Compare.{refusalOf}
 use Rattle.demands.specs.Claims.{Agree, TooLarge, TooManyParts, TooManySteps}
@@ -12,8 +10,10 @@ use Rattle.netlist.specs.Check.{read, readNetlist}
 use Rattle.netlist.specs.Netlist.{Netlist}
 use Rattle.sweep_model.specs.State.{Limits}
 use Rattle.sweep_model.specs.declared.Counts.{Counts}
-use Rattle.sweep_model.specs.declared.Reply.{Reply}
 use Rattle.sweep_model.specs.declared.Reply.the-variants.{Different, Equal}
+use Rattle.sweep_model.specs.declared.Reply.{Reply}
+use mathlib.Core.List.{List}
+use mathlib.Core.Path.{_≡_}
 
 -- "demand 3's bound, on pairs whose limits suffice": none of the three bounds that an Undecided needs is passed.
 pub record Suffice (d e : Netlist) (limits : Limits) : Type 0 where

@@ -1,8 +1,5 @@
 -- Demand 3. Every list of comparisons, refused ones included, on the table of an accepted load of two files.
-use mathlib.Core.List.{List, [], _∷_}
-use mathlib.Core.Path.{_≡_}
 use Prim.Native.Nat.{_<_, ℕ}
-use lib.ListN.{length}
 use Rattle.comparer.specs.Compare.{Given, Left, compared}
 use Rattle.demands.specs.Claims.{ReplyKept, sideValue}
 use Rattle.loader.specs.Load.{Room, loadResult, tableOf}
@@ -12,6 +9,9 @@ use Rattle.netlist.specs.Check.{read, readNetlist}
 use Rattle.netlist.specs.Netlist.{Netlist}
 use Rattle.table.specs.Table.{graphOf, outputValue}
 use Rattle.truth.specs.Truth.{Setting}
+use lib.ListN.{length}
+use mathlib.Core.List.{List, [], _∷_}
+use mathlib.Core.Path.{_≡_}
 
 -- A comparison: what it was given, and what it gave back and left.
 pub record Call : Type 0 where

@@ -1,8 +1,5 @@
 -- Premises of demand 3 that are met: "The and/or pair above", and three comparisons of it, the second of them refused.
-use mathlib.Core.List.{List, [], _∷_}
-use mathlib.Core.Path.{_≡_}
 use Prim.Native.Nat.{ℕ}
-use lib.ListN.{replicate}
 use Rattle.comparer.specs.Compare.{Given, compared}
 use Rattle.demands.specs.Cards.{comparisonOf, usual}
 use Rattle.demands.specs.Demand3.{Call, Ran}
@@ -11,11 +8,14 @@ use Rattle.loader.specs.Load.{loadResult, maxTable, tableOf}
 use Rattle.loader.specs.declared.Loaded.the-variants.{Accepted}
 use Rattle.netlist.specs.Check.{read, readNetlist}
 use Rattle.netlist.specs.Netlist.{Netlist}
-use Rattle.netlist.specs.declared.records.Operation.{Operation}
 use Rattle.netlist.specs.declared.records.Operation.the-variants.{And, Or}
+use Rattle.netlist.specs.declared.records.Operation.{Operation}
 use Rattle.sweep_model.specs.State.{Limits}
 use Rattle.sweep_model.specs.declared.Cause.the-variants.{Size}
 use Rattle.sweep_model.specs.declared.Reply.the-variants.{Different, Refused, Undecided}
+use lib.ListN.{replicate}
+use mathlib.Core.List.{List, [], _∷_}
+use mathlib.Core.Path.{_≡_}
 
 -- "right the same but `or`": `G⇥or⇥2⇥4`, `O⇥6`.
 abbrev pub otherFile : List ℕ

@@ -1,10 +1,5 @@
 -- Each row of the table is an AND that some gate stands for, and different rows come from different ANDs.
-use mathlib.Core.Bool.{false, true}
-use mathlib.Core.List.{List, [], _++_, _∷_, map}
-use mathlib.Core.Path.{_≡_, ap, ap₂, refl, subst₂, sym, _∙_}
 use Prim.Native.Nat.{_*_, _+_, _<_, _≤_, suc, zero, ℕ}
-use native.Mathlib.Omega.{arith}
-use lib.ListN.{getD, length, length-map}
 use Rattle.aig.proofs.PairsLaws.{same-pair-value}
 use Rattle.loader.proofs.FromLaws.{place-pair, place-within, placeIn, total-from}
 use Rattle.loader.proofs.PairLaws.{pair-good}
@@ -29,6 +24,11 @@ use Rattle.truth.proofs.Together.{part-all}
 use Rattle.truth.specs.Distinct.{among}
 use Rattle.truth.specs.Parts.{alike?, allParts, parts}
 use Rattle.truth.specs.Truth.{Truth, conj, constantly, invert, leaf, node}
+use lib.ListN.{getD, length, length-map}
+use mathlib.Core.Bool.{false, true}
+use mathlib.Core.List.{List, [], _++_, _∷_, map}
+use mathlib.Core.Path.{_≡_, ap, ap₂, refl, subst₂, sym, _∙_}
+use native.Mathlib.Omega.{arith}
 
 -- An AND is the same in either order.
 pub conj-symmetric : (f g : Truth) → conj f g ≡ conj g f

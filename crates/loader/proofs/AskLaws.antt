@@ -1,24 +1,24 @@
 -- One AND asked for: how it ends, and that the graph stays good.
-use mathlib.Core.List.{List, [], _++_, _∷_}
-use mathlib.Core.Path.{_≡_, refl, subst, sym, _∙_}
 use Prim.Native.Nat.{_*_, _+_, _<_, _≤_, ℕ}
-use native.Mathlib.Decide.{decLt}
-use native.Mathlib.Omega.{arith}
-use lib.ListN.{List·getD-append, length, length-append}
-use lib.Seq.{getD-append-add, getD-at}
 use Rattle.aig.proofs.FirstVertexLaws.{found-at, found-nothing}
 use Rattle.aig.proofs.FoldLaws.{pair-below, pair-unfolded, to-below}
 use Rattle.aig.specs.Fold.{Unfolded, foldOf}
 use Rattle.aig.specs.Lookup.{First, Holds, Unused, firstVertex, firstWord, secondWord}
-use Rattle.aig.specs.declared.fold.Folded.{Folded}
 use Rattle.aig.specs.declared.fold.Folded.the-variants.{Pair, To}
+use Rattle.aig.specs.declared.fold.Folded.{Folded}
 use Rattle.aig.specs.declared.literal.Literal.{Literal}
-use Rattle.aig.specs.declared.lookup.Found.{Found}
 use Rattle.aig.specs.declared.lookup.Found.the-variants.{At, Nothing}
+use Rattle.aig.specs.declared.lookup.Found.{Found}
 use Rattle.loader.proofs.GrownLaws.{grown-none, grown-one}
 use Rattle.loader.specs.Build.{Build, Built, askAnd, foldedOrNot, foundOrMade, whenFolded, whenFound, whenMade}
 use Rattle.loader.specs.Good.{Good, Row}
 use Rattle.loader.specs.Grown.{Step}
+use lib.ListN.{List·getD-append, length, length-append}
+use lib.Seq.{getD-append-add, getD-at}
+use mathlib.Core.List.{List, [], _++_, _∷_}
+use mathlib.Core.Path.{_≡_, refl, subst, sym, _∙_}
+use native.Mathlib.Decide.{decLt}
+use native.Mathlib.Omega.{arith}
 
 -- "Each AND asked for is folded, found or made."
 pub data Asked (b : Build) (p q : ℕ) : Built → Type 0 where

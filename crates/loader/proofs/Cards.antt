@@ -1,6 +1,4 @@
 -- The bench cards on loading, computed: the files are read, then the graphs are built.
-use mathlib.Core.List.{[], _∷_}
-use mathlib.Core.Path.{_≡_, refl}
 use Prim.Native.Nat.{ℕ}
 use Rattle.aig.specs.Fold.{foldOf}
 use Rattle.aig.specs.Lookup.{firstVertex, ownWords}
@@ -11,12 +9,14 @@ use Rattle.netlist.specs.Check.{checkFile, checkFrom, finish, gateStep, gatesIn
 use Rattle.netlist.specs.Meaning.{andCount}
 use Rattle.netlist.specs.Netlist.{Netlist}
 use Rattle.netlist.specs.Records.{fieldsRecord, fileRecords, operationOf, recordOf, recordsOf, unended}
-use Rattle.netlist.specs.declared.records.Operation.{Operation}
 use Rattle.netlist.specs.declared.records.Operation.the-variants.{And, Or, Xor}
+use Rattle.netlist.specs.declared.records.Operation.{Operation}
 use Rattle.table.specs.Refusals.{firstRefusal}
 use Rattle.table.specs.Table.{graphOf, outputValue, outputWords, outputs, pairs, rowsOf, sideOutputs, valuesOn}
 use Rattle.table.specs.Values.{vertexValues}
 use Rattle.text.specs.Numerals.{digitsFrom, numeralOf}
+use mathlib.Core.List.{[], _∷_}
+use mathlib.Core.Path.{_≡_, refl}
 
 -- The files, read.
 abbrev oneGate : Operation → ℕ → ℕ → ℕ → Netlist

@@ -1,12 +1,12 @@
 -- Rows that come from ANDs: where each comes from, and what carries over from rows to ANDs.
-use mathlib.Core.List.{List, [], _++_, _∷_}
-use mathlib.Core.Path.{_≡_}
 use Prim.Native.Nat.{_<_, _≤_, suc, zero, ℕ}
-use native.Mathlib.Omega.{arith}
-use lib.ListN.{getD, length}
 use Rattle.aig.proofs.PairsLaws.{same-pair-value}
 use Rattle.aig.specs.Pairs.{SamePair}
 use Rattle.loader.specs.From.{From, made, none, other, total}
+use lib.ListN.{getD, length}
+use mathlib.Core.List.{List, [], _++_, _∷_}
+use mathlib.Core.Path.{_≡_}
+use native.Mathlib.Omega.{arith}
 
 module _ {A : Type 0} where
   -- No row comes from any ANDs.

@@ -1,7 +1,5 @@
 -- Gates, files and both files: the graph stays good, and every AND is counted.
-use mathlib.Core.List.{List, [], _++_, _∷_}
 use Prim.Native.Nat.{_*_, _<_, suc, zero, ℕ}
-use lib.ListN.{getD}
 use Rattle.aig.proofs.LiteralLaws.{negate-below, onto-below}
 use Rattle.aig.specs.Literal.{negate, vertexOf}
 use Rattle.loader.proofs.AskLaws.{ask-below, ask-step}
@@ -12,8 +10,10 @@ use Rattle.loader.specs.Grown.{Ready, Step}
 use Rattle.netlist.specs.Check.{andsOf}
 use Rattle.netlist.specs.Meaning.{andCount}
 use Rattle.netlist.specs.Netlist.{Gate}
-use Rattle.netlist.specs.declared.records.Operation.{Operation}
 use Rattle.netlist.specs.declared.records.Operation.the-variants.{And, Or, Xor}
+use Rattle.netlist.specs.declared.records.Operation.{Operation}
+use lib.ListN.{getD}
+use mathlib.Core.List.{List, [], _++_, _∷_}
 
 -- The three ANDs of an xor, each asked for of the graph that the one before leaves.
 abbrev pub xorOne : Build → ℕ → ℕ → Built

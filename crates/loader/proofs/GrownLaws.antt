@@ -1,14 +1,14 @@
 -- A graph that grows by rows: one after another, and what it keeps.
-use mathlib.Core.List.{List, [], _++_, _∷_, append-assoc, append-nil}
-use mathlib.Core.Path.{_≡_, ap, refl, sym, _∙_}
 use Prim.Native.Nat.{_*_, _+_, _<_, ℕ}
-use native.Mathlib.Omega.{arith}
-use lib.ListN.{length, length-append}
 use Rattle.loader.specs.Build.{Build}
 use Rattle.loader.specs.Good.{Good}
 use Rattle.loader.specs.Grown.{Grown, Step, rowWords}
 use Rattle.table.specs.Table.{pairs}
 use Rattle.table.specs.Values.{Pair}
+use lib.ListN.{length, length-append}
+use mathlib.Core.List.{List, [], _++_, _∷_, append-assoc, append-nil}
+use mathlib.Core.Path.{_≡_, ap, refl, sym, _∙_}
+use native.Mathlib.Omega.{arith}
 
 -- The words of some rows after others.
 pub row-words-append : (rs qs : List Pair) → rowWords (rs ++ qs) ≡ rowWords rs ++ rowWords qs

@@ -1,12 +1,5 @@
 -- Demand 1: the files of two netlists within the limits are accepted, and nothing else is.
-use mathlib.Core.Bool.{Bool, _||_, cond, false, not, true}
-use mathlib.Core.List.{List, [], _∷_}
-use mathlib.Core.Path.{_≡_, refl}
 use Prim.Native.Nat.{_*_, _+_, _≤_, ℕ}
-use native.Mathlib.Omega.{arith}
-use lib.Dec.{eqb, ltb}
-use lib.ListN.{length}
-use borrow.Author.Tests.{eq-eqb, eqb-true, le-ltb, ltb-false, not-false}
 use Rattle.loader.specs.Load.{Room, countsDiffer?, lengthTests, loadResult, maxTable, maxVertices, pairTests, readResult, shortSlice?, tableAfter, tableOf, tallyOf}
 use Rattle.loader.specs.Loadable.{Enough, Loadable, Loads}
 use Rattle.loader.specs.declared.Loaded.the-variants.{Accepted, Refused}
@@ -19,6 +12,13 @@ use Rattle.netlist.specs.Netlist.{Netlist, bytesOf}
 use Rattle.table.specs.Limits.{maxAnds}
 use Rattle.table.specs.Refusals.{Test, firstRefusal}
 use Rattle.truth.proofs.Booleans.{clash}
+use borrow.Author.Tests.{eq-eqb, eqb-true, le-ltb, ltb-false, not-false}
+use lib.Dec.{eqb, ltb}
+use lib.ListN.{length}
+use mathlib.Core.Bool.{Bool, _||_, cond, false, not, true}
+use mathlib.Core.List.{List, [], _∷_}
+use mathlib.Core.Path.{_≡_, refl}
+use native.Mathlib.Omega.{arith}
 
 -- The tests of two netlists that are within the limits do not apply.
 counts-agree : {d e : Netlist} → Loadable d e → countsDiffer? d e ≡ false

@@ -1,10 +1,5 @@
 -- What literals of the graph mean, over any domain: gates, files and both files, by the values of the graph that is left in the end.
-use mathlib.Core.Bool.{false}
-use mathlib.Core.List.{List, [], _++_, _∷_, map-append}
-use mathlib.Core.Path.{_≡_, ap, ap₂, refl, _∙_}
 use Prim.Native.Nat.{_*_, _+_, _<_, _≤_, suc, zero, ℕ}
-use native.Mathlib.Omega.{arith}
-use lib.ListN.{getD, length, length-append}
 use Rattle.aig.proofs.FoldLaws.{pair-operands, pair-unfolded}
 use Rattle.aig.proofs.PairsLaws.{pair-map}
 use Rattle.aig.proofs.ValuesLaws.{pair-means, to-means, value-literal, value-negate, value-onto}
@@ -22,8 +17,13 @@ use Rattle.loader.specs.Grown.{Ready, Step, rowWords}
 use Rattle.loader.specs.Valued.{Follows, Origin, StandsFor, Valuation, Valued, byAnds, operandsOf}
 use Rattle.netlist.specs.Meaning.{andsFrom, fromAnds, gateAnds, gateResult, vertexResults}
 use Rattle.netlist.specs.Netlist.{Gate}
-use Rattle.netlist.specs.declared.records.Operation.{Operation}
 use Rattle.netlist.specs.declared.records.Operation.the-variants.{And, Or, Xor}
+use Rattle.netlist.specs.declared.records.Operation.{Operation}
+use lib.ListN.{getD, length, length-append}
+use mathlib.Core.Bool.{false}
+use mathlib.Core.List.{List, [], _++_, _∷_, map-append}
+use mathlib.Core.Path.{_≡_, ap, ap₂, refl, _∙_}
+use native.Mathlib.Omega.{arith}
 
 module _ {A : Type 0} {Sound : A → Type 0} {invert : A → A} {both : A → A → A} {falsum : A} {vs : List A}
     (val : Valuation Sound invert both falsum vs) where

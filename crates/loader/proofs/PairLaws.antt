@@ -1,9 +1,5 @@
 -- A file and both files: the graph is good, every AND is counted, and the outputs are literals of the graph.
-use mathlib.Core.List.{List, [], _∷_, map}
-use mathlib.Core.Path.{_≡_, refl, subst, sym}
 use Prim.Native.Nat.{_*_, _+_, _<_, _≤_, suc, zero, ℕ}
-use native.Mathlib.Omega.{arith}
-use lib.ListN.{getD, length, length-map}
 use Rattle.aig.proofs.OwnLaws.{length-own, own-holds}
 use Rattle.aig.specs.Lookup.{Holds, ownWords}
 use Rattle.loader.proofs.GateLaws.{gates-ready, gates-step, literal-for-below}
@@ -14,6 +10,10 @@ use Rattle.loader.specs.Grown.{Ready, Step}
 use Rattle.loader.specs.Load.{tallyOf}
 use Rattle.netlist.specs.Meaning.{andCount}
 use Rattle.netlist.specs.Netlist.{Netlist}
+use lib.ListN.{getD, length, length-map}
+use mathlib.Core.List.{List, [], _∷_, map}
+use mathlib.Core.Path.{_≡_, refl, subst, sym}
+use native.Mathlib.Omega.{arith}
 
 -- The graph of the constant and the inputs.
 pub empty-good : (n : ℕ) → Good n (emptyBuild n)

@@ -1,10 +1,5 @@
 -- What the outputs of a file and of both files mean, over any domain, and which ANDs the rows come from.
-use mathlib.Core.List.{List, [], _∷_, map}
-use mathlib.Core.Path.{_≡_, ap, refl, subst, sym, _∙_}
 use Prim.Native.Nat.{_*_, _+_, _<_, _≤_, suc, zero, ℕ}
-use native.Mathlib.Decide.{decLt}
-use native.Mathlib.Omega.{arith}
-use lib.ListN.{List·getD-eq-default, getD, length}
 use Rattle.aig.specs.Values.{literalValue}
 use Rattle.loader.proofs.MeaningLaws.{gates-mean, literal-for-means, origin-then, valued-before, value-vertex}
 use Rattle.loader.proofs.PairLaws.{empty-good, fileStart, left-step, right-step, start-ready}
@@ -14,6 +9,11 @@ use Rattle.loader.specs.Valued.{Begins, Follows, Origin, PairMeans, Stan
 use Rattle.netlist.specs.Meaning.{andsFrom, vertexResults}
 use Rattle.netlist.specs.Netlist.{Netlist}
 use Rattle.netlist.specs.declared.records.Operation.{Operation}
+use lib.ListN.{List·getD-eq-default, getD, length}
+use mathlib.Core.List.{List, [], _∷_, map}
+use mathlib.Core.Path.{_≡_, ap, refl, subst, sym, _∙_}
+use native.Mathlib.Decide.{decLt}
+use native.Mathlib.Omega.{arith}
 
 length-first : (v n : ℕ) → length (literalsFrom v n) ≡ n
 unfolding literalsFrom

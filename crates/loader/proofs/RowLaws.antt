@@ -1,8 +1,5 @@
 -- What a good graph says of its rows.
-use mathlib.Core.Path.{_≡_, sym, _∙_}
 use Prim.Native.Nat.{_+_, _<_, _≤_, ℕ}
-use native.Mathlib.Decide.{decLt}
-use native.Mathlib.Omega.{arith}
 use Rattle.aig.proofs.FoldLaws.{fold-ordered}
 use Rattle.aig.specs.Fold.{foldOf}
 use Rattle.aig.specs.Literal.{lit}
@@ -10,6 +7,9 @@ use Rattle.aig.specs.Lookup.{Entered, Holds, firstWord, secondWord}
 use Rattle.aig.specs.declared.fold.Folded.the-variants.{Pair}
 use Rattle.loader.specs.Build.{Build}
 use Rattle.loader.specs.Good.{Good}
+use mathlib.Core.Path.{_≡_, sym, _∙_}
+use native.Mathlib.Decide.{decLt}
+use native.Mathlib.Omega.{arith}
 
 module _ {n : ℕ} {b : Build} (g : Good n b) where
   -- Every row is its own fold.

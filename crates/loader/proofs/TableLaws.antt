@@ -1,10 +1,5 @@
 -- The table after a load: it passes tests 10 and 11, and its graph is the one that was built.
-use mathlib.Core.List.{List, [], _++_, _∷_, append-assoc, append-nil}
-use mathlib.Core.Path.{_≡_, ap, sym, _∙_}
 use Prim.Native.Nat.{_*_, _+_, _-_, _<_, _≤_, suc, zero, ℕ}
-use native.Mathlib.Omega.{arith}
-use lib.ListN.{drop, getD, length, length-append, length-drop}
-use lib.Seq.{drop-append-seam, drop-at, take-append-add, take-all, take-append-seam}
 use Rattle.aig.proofs.OwnLaws.{length-own}
 use Rattle.aig.specs.Fold.{Unfolded}
 use Rattle.aig.specs.Lookup.{firstWord, ownWords, secondWord}
@@ -21,6 +16,11 @@ use Rattle.table.specs.Accepted.{Accepted, Downward}
 use Rattle.table.specs.Limits.{maxAnds, maxInputs, maxOutputs}
 use Rattle.table.specs.Table.{graphOf, outputWords, pairs, rowAt, rowsOf, sideOutputs}
 use Rattle.table.specs.Values.{Pair}
+use lib.ListN.{drop, getD, length, length-append, length-drop}
+use lib.Seq.{drop-append-seam, drop-at, take-append-add, take-all, take-append-seam}
+use mathlib.Core.List.{List, [], _++_, _∷_, append-assoc, append-nil}
+use mathlib.Core.Path.{_≡_, ap, sym, _∙_}
+use native.Mathlib.Omega.{arith}
 
 -- A table with its words in place.
 abbrev laid : ℕ → List Pair → List ℕ → List ℕ → List ℕ → List ℕ

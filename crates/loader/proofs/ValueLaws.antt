@@ -1,10 +1,5 @@
 -- Each output of the table has its file's value on every setting, and its file's function.
-use mathlib.Core.Bool.{Bool, _&&_, false, not}
-use mathlib.Core.List.{List, _∷_}
-use mathlib.Core.Path.{_≡_, ap, refl, subst, _∙_}
 use Prim.Native.Nat.{_*_, _+_, _-_, _<_, ℕ}
-use native.Mathlib.Omega.{arith}
-use lib.ListN.{getD, length}
 use Rattle.aig.proofs.TruthLaws.{functions}
 use Rattle.aig.proofs.ValuesLaws.{bits}
 use Rattle.aig.specs.Lookup.{firstWord, secondWord}
@@ -26,6 +21,11 @@ use Rattle.table.specs.Accepted.{RowBelow}
 use Rattle.table.specs.Table.{firstFunctions, functionsOf, outputFunction, outputValue, outputs, valuesOn}
 use Rattle.table.specs.Values.{rowValue, vertexValues}
 use Rattle.truth.specs.Truth.{Perfect, Setting, Truth, conj, constantly, invert}
+use lib.ListN.{getD, length}
+use mathlib.Core.Bool.{Bool, _&&_, false, not}
+use mathlib.Core.List.{List, _∷_}
+use mathlib.Core.Path.{_≡_, ap, refl, subst, _∙_}
+use native.Mathlib.Omega.{arith}
 
 module _ {A : Type 0} {Sound : A → Type 0} {inverse : A → A} {both : A → A → A} {falsum : A} {us : List A}
     (first : Valuation Sound inverse both falsum us) (n : ℕ) (count : length us ≡ 1 + n) where

@@ -1,17 +1,17 @@
 -- Gates into the graph: each AND asked for is folded, found or made.
-use mathlib.Core.List.{List, [], _++_, _∷_, map}
 use Prim.Native.Nat.{_*_, _+_, suc, zero, ℕ}
-use lib.ListN.{getD}
 use Rattle.aig.specs.Fold.{foldOf}
 use Rattle.aig.specs.Literal.{negate, onto, vertexOf}
 use Rattle.aig.specs.Lookup.{firstVertex, ownWords}
-use Rattle.aig.specs.declared.fold.Folded.{Folded}
 use Rattle.aig.specs.declared.fold.Folded.the-variants.{Pair, To}
-use Rattle.aig.specs.declared.lookup.Found.{Found}
+use Rattle.aig.specs.declared.fold.Folded.{Folded}
 use Rattle.aig.specs.declared.lookup.Found.the-variants.{At, Nothing}
+use Rattle.aig.specs.declared.lookup.Found.{Found}
 use Rattle.netlist.specs.Netlist.{Gate, Netlist}
-use Rattle.netlist.specs.declared.records.Operation.{Operation}
 use Rattle.netlist.specs.declared.records.Operation.the-variants.{And, Or, Xor}
+use Rattle.netlist.specs.declared.records.Operation.{Operation}
+use lib.ListN.{getD}
+use mathlib.Core.List.{List, [], _++_, _∷_, map}
 
 -- The graph so far, two words a vertex and the number of vertices; and "asked, folded, found".
 pub record Build : Type 0 where

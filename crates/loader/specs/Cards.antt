@@ -1,13 +1,13 @@
 -- The bench cards on loading, marked P, from the bytes of the files. "a is reference 2, b is 4": inputs 1 and 2, of two.
-use mathlib.Core.Bool.{false}
-use mathlib.Core.List.{List, [], _∷_}
-use mathlib.Core.Path.{_≡_}
 use Prim.Native.Nat.{_*_, ℕ}
 use Rattle.loader.specs.Load.{Room, loadResult, maxTable, maxVertices, tableAfter}
 use Rattle.loader.specs.declared.Loaded.the-variants.{Accepted}
 use Rattle.netlist.specs.Check.{readNetlist}
 use Rattle.table.specs.Table.{graphOf, outputValue}
 use Rattle.truth.specs.Truth.{Setting}
+use mathlib.Core.Bool.{false}
+use mathlib.Core.List.{List, [], _∷_}
+use mathlib.Core.Path.{_≡_}
 
 -- `N⇥1⇥2⇥1⇥1`
 abbrev pub withOneGate : List ℕ → List ℕ

@@ -1,7 +1,7 @@
 -- Where rows come from: ANDs that were asked for, each row from one of its own, in order.
-use mathlib.Core.List.{List, [], _∷_}
 use Prim.Native.Nat.{_+_, ℕ}
 use Rattle.aig.specs.Pairs.{SamePair}
+use mathlib.Core.List.{List, [], _∷_}
 
 -- The operands of some rows come, row by row, from ANDs further and further on.
 pub data From {A : Type 0} : List (A × A) → List (A × A) → Type 0 where

@@ -1,11 +1,11 @@
 -- The functions of a graph's rows and vertices, and of ANDs.
-use mathlib.Core.Bool.{false}
-use mathlib.Core.List.{List, map}
 use Prim.Native.Nat.{ℕ}
-use lib.ListN.{getD}
 use Rattle.loader.specs.Valued.{operandsOf}
 use Rattle.table.specs.Table.{Graph, functionsOf}
 use Rattle.truth.specs.Truth.{Truth, conj, constantly, invert}
+use lib.ListN.{getD}
+use mathlib.Core.Bool.{false}
+use mathlib.Core.List.{List, map}
 
 -- The functions of the two operands of each row of a graph.
 unfoldable pub rowOperands : Graph → List (Truth × Truth)

@@ -1,11 +1,11 @@
 -- What holds of the graph while files of n inputs are loaded.
-use mathlib.Core.List.{List}
-use mathlib.Core.Path.{_≡_}
 use Prim.Native.Nat.{_*_, _+_, _<_, _≤_, ℕ}
-use lib.ListN.{length}
 use Rattle.aig.specs.Fold.{Unfolded}
 use Rattle.aig.specs.Lookup.{Holds, Unused, firstWord, secondWord}
 use Rattle.loader.specs.Build.{Build}
+use lib.ListN.{length}
+use mathlib.Core.List.{List}
+use mathlib.Core.Path.{_≡_}
 
 -- The row of a made vertex: it does not fold, refers downwards (its second literal is the higher one), and no lower vertex has its pair.
 pub record Row (words : List ℕ) (v : ℕ) : Type 0 where

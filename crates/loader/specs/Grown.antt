@@ -1,12 +1,12 @@
 -- A graph with more rows.
-use mathlib.Core.List.{List, [], _++_, _∷_}
-use mathlib.Core.Path.{_≡_}
 use Prim.Native.Nat.{_*_, _+_, _-_, _<_, ℕ}
-use lib.ListN.{drop, getD, length}
 use Rattle.loader.specs.Build.{Build, Traced}
 use Rattle.loader.specs.Good.{Good}
 use Rattle.table.specs.Table.{pairs}
 use Rattle.table.specs.Values.{Pair}
+use lib.ListN.{drop, getD, length}
+use mathlib.Core.List.{List, [], _++_, _∷_}
+use mathlib.Core.Path.{_≡_}
 
 -- "two words a made vertex"
 unfoldable pub rowWords : List Pair → List ℕ

@@ -1,12 +1,8 @@
 -- load: its refusals in order, its result, and the table it leaves.
-use mathlib.Core.Bool.{Bool, _||_, not}
-use mathlib.Core.List.{List, [], _++_, _∷_}
 use Prim.Native.Nat.{_*_, _+_, _-_, ℕ}
-use lib.Dec.{eqb, ltb}
-use lib.ListN.{drop, length}
 use Rattle.loader.specs.Build.{PairBuilt, buildPair}
-use Rattle.loader.specs.declared.Loaded.{Loaded}
 use Rattle.loader.specs.declared.Loaded.the-variants.{Accepted, Refused}
+use Rattle.loader.specs.declared.Loaded.{Loaded}
 use Rattle.loader.specs.declared.Tally.{Tally}
 use Rattle.netlist.specs.Check.{Read, read, readNetlist, refused}
 use Rattle.netlist.specs.Limits.{maxBytes}
@@ -15,6 +11,10 @@ use Rattle.netlist.specs.Netlist.{Netlist}
 use Rattle.table.specs.Limits.{maxAnds, maxInputs, maxOutputs}
 use Rattle.table.specs.Refusals.{Test, firstRefusal}
 use Rattle.table.specs.Table.{Graph, graphOf}
+use lib.Dec.{eqb, ltb}
+use lib.ListN.{drop, length}
+use mathlib.Core.Bool.{Bool, _||_, not}
+use mathlib.Core.List.{List, [], _++_, _∷_}
 
 -- The lengths of the lent slices: the table and four working slices.
 pub record Room : Type 0 where

@@ -1,8 +1,5 @@
 -- The pairs of netlists that are loaded, and the room that is asked of the lent slices.
-use mathlib.Core.List.{List}
-use mathlib.Core.Path.{_≡_}
 use Prim.Native.Nat.{_*_, _+_, _≤_, ℕ}
-use lib.ListN.{length}
 use Rattle.loader.specs.Load.{Room, maxTable, maxVertices, tallyOf}
 use Rattle.loader.specs.declared.Tally.{Tally}
 use Rattle.netlist.specs.Check.{read, readNetlist}
@@ -10,6 +7,9 @@ use Rattle.netlist.specs.Limits.{maxBytes}
 use Rattle.netlist.specs.Meaning.{andCount}
 use Rattle.netlist.specs.Netlist.{Netlist, Within}
 use Rattle.table.specs.Limits.{maxAnds}
+use lib.ListN.{length}
+use mathlib.Core.List.{List}
+use mathlib.Core.Path.{_≡_}
 
 -- Two netlists within the limits, with equally many inputs and outputs, and at most 6,144 ANDs.
 pub record Loadable (d e : Netlist) : Type 0 where

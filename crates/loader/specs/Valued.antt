@@ -1,8 +1,5 @@
 -- What a graph means, over any domain: values of its vertices, of gates by the ANDs that they stand for, and of both files' outputs.
-use mathlib.Core.List.{List, _++_, map}
-use mathlib.Core.Path.{_≡_}
 use Prim.Native.Nat.{_+_, _<_, ℕ}
-use lib.ListN.{getD, length}
 use Rattle.aig.specs.Lookup.{firstWord, secondWord}
 use Rattle.aig.specs.Values.{Algebra, AllGood, literalValue}
 use Rattle.loader.specs.Build.{Build, Traced, buildPair, emptyBuild}
@@ -12,6 +9,9 @@ use Rattle.netlist.specs.Meaning.{andResult, andsFrom, fromAnds, gateAnds, vert
 use Rattle.netlist.specs.Netlist.{Netlist}
 use Rattle.netlist.specs.declared.records.Operation.{Operation}
 use Rattle.table.specs.Values.{Pair}
+use lib.ListN.{getD, length}
+use mathlib.Core.List.{List, _++_, map}
+use mathlib.Core.Path.{_≡_}
 
 -- Values of all vertices, in a domain that obeys the laws; the constant is false.
 pub record Valuation {A : Type 0} (Sound : A → Type 0) (invert : A → A) (both : A → A → A) (falsum : A) (vs : List A) : Type 0 where

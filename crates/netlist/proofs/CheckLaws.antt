@@ -1,24 +1,24 @@
 -- The check of records: a netlist within its limits is accepted, and what is accepted is the records of such a netlist.
-use mathlib.Core.List.{List, [], _++_, _∷_, map}
-use mathlib.Core.Path.{_≡_, ap, refl}
 use Prim.Native.Nat.{_*_, _+_, _<_, suc, ℕ}
-use native.Mathlib.Omega.{arith}
-use lib.ListN.{length}
 use Rattle.netlist.proofs.StepLaws.{GateFits, Limited, OutputDue, finish-all, finish-cases, gate-cases, gate-next, header-cases, header-next, output-cases, output-next, summary}
 use Rattle.netlist.specs.Accepted.{summaryOf}
 use Rattle.netlist.specs.Check.{andThen, andsOf, body, checkFrom, finish}
 use Rattle.netlist.specs.Limits.{edition}
 use Rattle.netlist.specs.Meaning.{andCount}
-use Rattle.netlist.specs.Netlist.{AllBelow, Downward, Netlist, Within, bodyRecords, gateRecord, netlistRecords}
 use Rattle.netlist.specs.Netlist as netlist
+use Rattle.netlist.specs.Netlist.{AllBelow, Downward, Netlist, Within, bodyRecords, gateRecord, netlistRecords}
 use Rattle.netlist.specs.declared.check.Body.{Body}
-use Rattle.netlist.specs.declared.check.Checked.{Checked}
 use Rattle.netlist.specs.declared.check.Checked.the-variants.{Accepted, Refused}
+use Rattle.netlist.specs.declared.check.Checked.{Checked}
 use Rattle.netlist.specs.declared.check.Due.the-variants.{First, Later}
 use Rattle.netlist.specs.declared.check.Summary.{Summary}
 use Rattle.netlist.specs.declared.records.Operation.{Operation}
-use Rattle.netlist.specs.declared.records.Record.{Record}
 use Rattle.netlist.specs.declared.records.Record.the-variants.{Gate, Header, Malformed, Output}
+use Rattle.netlist.specs.declared.records.Record.{Record}
+use lib.ListN.{length}
+use mathlib.Core.List.{List, [], _++_, _∷_, map}
+use mathlib.Core.Path.{_≡_, ap, refl}
+use native.Mathlib.Omega.{arith}
 
 -- What is due after line 1, and what an accepted file has at its end.
 abbrev counts : ℕ → ℕ → ℕ → ℕ → ℕ → ℕ → Body

@@ -1,7 +1,7 @@
 -- A choice by a test.
+use Rattle.truth.proofs.Booleans.{clash}
 use mathlib.Core.Bool.{Bool, _&&_, cond, false, true}
 use mathlib.Core.Path.{_≡_, refl}
-use Rattle.truth.proofs.Booleans.{clash}
 
 -- What holds of both sides, each where the test chooses it, holds of the choice.
 pub cond-cases : {A : Type 0} (P : A → Type 0) (t : Bool) {x y : A} → (t ≡ true → P x) → (t ≡ false → P y) → P (cond t x y)

@@ -1,24 +1,24 @@
 -- Files and their records: the bytes of records are read as those records, and a file without malformed lines is its records' bytes.
-use mathlib.Core.Bool.{Bool, _||_, false, true}
-use mathlib.Core.List.{List, [], _++_, _∷_, append-assoc, map}
-use mathlib.Core.Path.{_≡_, ap, ap₂, refl, sym, _∙_}
 use Prim.Native.Nat.{_*_, _+_, _≤_, ℕ}
-use native.Mathlib.Omega.{arith}
-use borrow.Author.Tests.{ne-eqb}
-use lib.Dec.{eqb}
-use lib.ListN.{length}
 use Rattle.netlist.proofs.LineLaws.{records-end, records-line}
 use Rattle.netlist.proofs.RecordLaws.{Spelled, fields-lack, fields-some, gate, header, line-end, output, read-written, spelled-read, tab}
 use Rattle.netlist.specs.Limits.{edition, maxGates}
 use Rattle.netlist.specs.Netlist as netlist
 use Rattle.netlist.specs.Netlist.{AllBelow, Downward, Gate, Netlist, Within, bodyRecords, fieldsOf, gateRecord, lineBytes, linesBytes, netlistRecords}
 use Rattle.netlist.specs.Records.{fieldsRecord, fileRecords, recordOf, recordsOf, unended}
-use Rattle.netlist.specs.declared.records.Record.{Record}
 use Rattle.netlist.specs.declared.records.Record.the-variants.{Malformed, Output}
+use Rattle.netlist.specs.declared.records.Record.{Record}
 use Rattle.table.specs.Limits.{maxInputs}
 use Rattle.text.proofs.SplitLaws.{join-splitAt, splitAt-join}
 use Rattle.text.specs.Split.{anyHas, has, join, splitAt}
 use Rattle.truth.proofs.Booleans.{clash}
+use borrow.Author.Tests.{ne-eqb}
+use lib.Dec.{eqb}
+use lib.ListN.{length}
+use mathlib.Core.Bool.{Bool, _||_, false, true}
+use mathlib.Core.List.{List, [], _++_, _∷_, append-assoc, map}
+use mathlib.Core.Path.{_≡_, ap, ap₂, refl, sym, _∙_}
+use native.Mathlib.Omega.{arith}
 
 -- Bytes that lack a separator, one after the other, lack it.
 lacks-append : (k : ℕ) (s t : List ℕ) → has k s ≡ false → has k t ≡ false → has k (s ++ t) ≡ false

@@ -1,18 +1,18 @@
 -- The lines of a file, one after the other.
-use mathlib.Core.Bool.{Bool, false, true}
-use mathlib.Core.List.{List, [], _++_, _∷_}
-use mathlib.Core.Path.{_≡_, ap, refl, sym, _∙_}
 use Prim.Native.Nat.{_+_, _-_, _<_, _≤_, ℕ}
-use native.Mathlib.Omega.{arith}
+use Rattle.netlist.specs.Passing.{lineRecord}
+use Rattle.netlist.specs.Records.{fileRecords, recordOf, recordsOf, unended}
+use Rattle.netlist.specs.declared.records.Record.the-variants.{Malformed}
+use Rattle.netlist.specs.declared.records.Record.{Record}
+use Rattle.text.proofs.SplitLaws.{has-shorter, has-whole, splitAt-append, splitAt-last, splitAt-next, splitAt-some, upTo-all, upTo-shorter}
+use Rattle.text.specs.Split.{has, splitAt, upTo}
 use borrow.Author.Tests.{ltb-false, ltb-true}
 use lib.Dec.{ltb}
 use lib.ListN.{drop, drop-of-length-le, length, length-drop}
-use Rattle.netlist.specs.Passing.{lineRecord}
-use Rattle.netlist.specs.Records.{fileRecords, recordOf, recordsOf, unended}
-use Rattle.netlist.specs.declared.records.Record.{Record}
-use Rattle.netlist.specs.declared.records.Record.the-variants.{Malformed}
-use Rattle.text.proofs.SplitLaws.{has-shorter, has-whole, splitAt-append, splitAt-last, splitAt-next, splitAt-some, upTo-all, upTo-shorter}
-use Rattle.text.specs.Split.{has, splitAt, upTo}
+use mathlib.Core.Bool.{Bool, false, true}
+use mathlib.Core.List.{List, [], _++_, _∷_}
+use mathlib.Core.Path.{_≡_, ap, refl, sym, _∙_}
+use native.Mathlib.Omega.{arith}
 
 -- A line before other parts is ended.
 pub records-cons : (line : List ℕ) (parts : List (List ℕ)) → 0 < length parts → recordsOf (line ∷ parts) ≡ recordOf line ∷ recordsOf parts

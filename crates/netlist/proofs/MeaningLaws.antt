@@ -1,10 +1,5 @@
 -- The gates of a file, over bits or functions: values of all vertices, and the ANDs that gates stand for.
-use mathlib.Core.List.{List, [], _++_, _∷_, append-assoc}
-use mathlib.Core.Path.{_≡_, ap₂, refl, sym, _∙_}
 use Prim.Native.Nat.{_*_, _+_, _<_, suc, ℕ}
-use native.Mathlib.Omega.{arith}
-use lib.ListN.{List·getD-append, getD, length, length-append}
-use lib.Seq.{getD-at}
 use Rattle.aig.proofs.LiteralLaws.{vertex-below}
 use Rattle.aig.specs.Literal.{vertexOf}
 use Rattle.aig.specs.Values.{literalValue}
@@ -12,8 +7,13 @@ use Rattle.netlist.specs.Check.{andsOf}
 use Rattle.netlist.specs.Meaning.{andCount, andResult, andsFrom, gateAnds, gateResult, vertexResults}
 use Rattle.netlist.specs.Netlist as netlist
 use Rattle.netlist.specs.Netlist.{Downward, Gate}
-use Rattle.netlist.specs.declared.records.Operation.{Operation}
 use Rattle.netlist.specs.declared.records.Operation.the-variants.{And, Or, Xor}
+use Rattle.netlist.specs.declared.records.Operation.{Operation}
+use lib.ListN.{List·getD-append, getD, length, length-append}
+use lib.Seq.{getD-at}
+use mathlib.Core.List.{List, [], _++_, _∷_, append-assoc}
+use mathlib.Core.Path.{_≡_, ap₂, refl, sym, _∙_}
+use native.Mathlib.Omega.{arith}
 
 -- The gates after some others.
 pub downward-after : (v : ℕ) (gs : List Gate) {hs : List Gate} → Downward v (gs ++ hs) → Downward (v + length gs) hs

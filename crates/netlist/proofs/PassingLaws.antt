@@ -1,9 +1,5 @@
 -- What holds while a file is passed line by line: what is ahead decides the answer.
-use mathlib.Core.List.{List, _∷_}
-use mathlib.Core.Path.{_≡_, ap, refl, subst, sym, _∙_}
 use Prim.Native.Nat.{_+_, _<_, _≤_, ℕ}
-use native.Mathlib.Omega.{arith}
-use lib.ListN.{drop, length}
 use Rattle.netlist.proofs.LineLaws.{formed-ended, records-ahead, records-end}
 use Rattle.netlist.proofs.StepLaws.{ands-few, gate-cases, header-cases, output-cases}
 use Rattle.netlist.specs.Check.{checkFile, checkFrom, finish, stepOf}
@@ -12,14 +8,18 @@ use Rattle.netlist.specs.Passing.{Counted, Held, at-first, at-later, lin
 use Rattle.netlist.specs.Records.{fileRecords}
 use Rattle.netlist.specs.declared.check.Body.{Body}
 use Rattle.netlist.specs.declared.check.Checked.the-variants.{Refused}
-use Rattle.netlist.specs.declared.check.Due.{Due}
 use Rattle.netlist.specs.declared.check.Due.the-variants.{First, Later}
-use Rattle.netlist.specs.declared.check.Stepped.{Stepped}
+use Rattle.netlist.specs.declared.check.Due.{Due}
 use Rattle.netlist.specs.declared.check.Stepped.the-variants.{Next, Refuse}
-use Rattle.netlist.specs.declared.records.Record.{Record}
+use Rattle.netlist.specs.declared.check.Stepped.{Stepped}
 use Rattle.netlist.specs.declared.records.Record.the-variants.{Gate, Header, Malformed, Output}
+use Rattle.netlist.specs.declared.records.Record.{Record}
 use Rattle.table.specs.Limits.{maxOutputs}
 use Rattle.text.specs.Split.{upTo}
+use lib.ListN.{drop, length}
+use mathlib.Core.List.{List, _∷_}
+use mathlib.Core.Path.{_≡_, ap, refl, subst, sym, _∙_}
+use native.Mathlib.Omega.{arith}
 
 -- The counts of what is due after line 1.
 pub held-later : {b : Body} → Held (Later b) → Counted b

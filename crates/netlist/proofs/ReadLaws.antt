@@ -1,9 +1,5 @@
 -- A netlist within its limits is read back from its bytes, and whatever is read is the bytes of what it gives.
-use mathlib.Core.List.{List, [], _++_, _∷_, map}
-use mathlib.Core.Path.{_≡_, ap, ap₂, refl, subst, subst⁻¹, _∙_}
 use Prim.Native.Nat.{_+_, ℕ}
-use native.Mathlib.Omega.{arith}
-use lib.ListN.{length}
 use Rattle.netlist.proofs.CheckLaws.{records-accepted, taken}
 use Rattle.netlist.proofs.FileLaws.{bytes-read, file-written, within-spelled}
 use Rattle.netlist.proofs.LineLaws.{line-ahead}
@@ -12,11 +8,15 @@ use Rattle.netlist.specs.Check.{body, checkFile, gatesIn, netlistIn, out
 use Rattle.netlist.specs.Netlist as netlist
 use Rattle.netlist.specs.Netlist.{Netlist, Within, bodyRecords, bytesOf, gateRecord, headerRecord, linesBytes, netlistRecords}
 use Rattle.netlist.specs.Records.{fileRecords}
-use Rattle.netlist.specs.declared.check.Checked.{Checked}
 use Rattle.netlist.specs.declared.check.Checked.the-variants.{Accepted, Refused}
+use Rattle.netlist.specs.declared.check.Checked.{Checked}
 use Rattle.netlist.specs.declared.check.Summary.{Summary}
 use Rattle.netlist.specs.declared.records.Record.the-variants.{Gate, Malformed, Output}
 use Rattle.text.specs.Split.{upTo}
+use lib.ListN.{length}
+use mathlib.Core.List.{List, [], _++_, _∷_, map}
+use mathlib.Core.Path.{_≡_, ap, ap₂, refl, subst, subst⁻¹, _∙_}
+use native.Mathlib.Omega.{arith}
 
 gates-in : (gs : List netlist.Gate) (os : List ℕ) → gatesIn (map gateRecord gs ++ map Output os) ≡ gs
 unfolding gatesIn

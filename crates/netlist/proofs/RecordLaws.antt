@@ -1,31 +1,31 @@
 -- Records and the fields of their lines.
-use mathlib.Core.Bool.{false, true}
-use mathlib.Core.List.{List, [], _∷_}
-use mathlib.Core.Path.{_≡_, ap, refl, _∙_}
 use Prim.Native.Nat.{_+_, _<_, _^_, suc, zero, ℕ}
-use native.Mathlib.Omega.{arith}
-use borrow.Author.Tests.{eqb-true}
-use lib.Dec.{eqb}
-use lib.ListN.{drop, drop-of-length-le, getD, length}
-use lib.Seq.{drop-cons}
 use Rattle.netlist.proofs.Choices.{cond-cases}
 use Rattle.netlist.specs.Netlist.{fieldsOf}
 use Rattle.netlist.specs.Records.{fieldsRecord, gateIn, gateOf, headerIn, headerOf, laidOut, operationBytes, operationOf, outputIn, outputOf}
-use Rattle.netlist.specs.declared.records.Operation.{Operation}
 use Rattle.netlist.specs.declared.records.Operation.the-variants.{And, Or, Xor}
-use Rattle.netlist.specs.declared.records.OperationField.{OperationField}
+use Rattle.netlist.specs.declared.records.Operation.{Operation}
 use Rattle.netlist.specs.declared.records.OperationField.the-variants.{Named, Unknown}
-use Rattle.netlist.specs.declared.records.Record.{Record}
+use Rattle.netlist.specs.declared.records.OperationField.{OperationField}
 use Rattle.netlist.specs.declared.records.Record.the-variants.{Gate, Header, Malformed, Output}
+use Rattle.netlist.specs.declared.records.Record.{Record}
 use Rattle.text.proofs.BytesLaws.{same-iff}
 use Rattle.text.proofs.NumeralLaws.{decimal-lacks, read-decimal, value-decimal}
 use Rattle.text.specs.Bytes.{sameBytes}
 use Rattle.text.specs.Decimal.{decimal}
 use Rattle.text.specs.Numerals.{MAX-DIGITS, numeralOf}
 use Rattle.text.specs.Split.{anyHas, has}
-use Rattle.text.specs.declared.numerals.Numeral.{Numeral}
 use Rattle.text.specs.declared.numerals.Numeral.the-variants.{Malformed as Unread, Value}
+use Rattle.text.specs.declared.numerals.Numeral.{Numeral}
 use Rattle.truth.proofs.Booleans.{and-left, and-right}
+use borrow.Author.Tests.{eqb-true}
+use lib.Dec.{eqb}
+use lib.ListN.{drop, drop-of-length-le, getD, length}
+use lib.Seq.{drop-cons}
+use mathlib.Core.Bool.{false, true}
+use mathlib.Core.List.{List, [], _∷_}
+use mathlib.Core.Path.{_≡_, ap, refl, _∙_}
+use native.Mathlib.Omega.{arith}
 
 -- A record that a line can hold: it is well formed, and its numbers have numerals.
 pub data Spelled : Record → Type 0 where

@@ -1,24 +1,24 @@
 -- What one line comes to, case by case, and what the end of a file comes to.
-use mathlib.Core.Bool.{_&&_}
-use mathlib.Core.Path.{_≡_, refl}
 use Prim.Native.Nat.{_*_, _+_, _<_, _≤_, ℕ}
-use native.Mathlib.Omega.{arith}
-use borrow.Author.Tests.{eq-eqb, eqb-false, eqb-true, le-leb, leb-true, lt-ltb, ltb-false, ltb-true}
-use lib.Dec.{eqb, leb, ltb}
 use Rattle.netlist.proofs.Choices.{both-cases, cond-cases}
 use Rattle.netlist.specs.Check.{andsOf, body, finish, gateStep, headerStep, outputStep}
 use Rattle.netlist.specs.Limits.{edition, maxGates}
 use Rattle.netlist.specs.declared.check.Body.{Body}
-use Rattle.netlist.specs.declared.check.Checked.{Checked}
 use Rattle.netlist.specs.declared.check.Checked.the-variants.{Accepted, Refused}
+use Rattle.netlist.specs.declared.check.Checked.{Checked}
 use Rattle.netlist.specs.declared.check.Due.the-variants.{Later}
-use Rattle.netlist.specs.declared.check.Stepped.{Stepped}
 use Rattle.netlist.specs.declared.check.Stepped.the-variants.{Next, Refuse}
+use Rattle.netlist.specs.declared.check.Stepped.{Stepped}
 use Rattle.netlist.specs.declared.check.Summary.{Summary}
-use Rattle.netlist.specs.declared.records.Operation.{Operation}
 use Rattle.netlist.specs.declared.records.Operation.the-variants.{And, Or, Xor}
+use Rattle.netlist.specs.declared.records.Operation.{Operation}
 use Rattle.table.specs.Limits.{maxInputs, maxOutputs}
 use Rattle.truth.proofs.Booleans.{and-left, and-right}
+use borrow.Author.Tests.{eq-eqb, eqb-false, eqb-true, le-leb, leb-true, lt-ltb, ltb-false, ltb-true}
+use lib.Dec.{eqb, leb, ltb}
+use mathlib.Core.Bool.{_&&_}
+use mathlib.Core.Path.{_≡_, refl}
+use native.Mathlib.Omega.{arith}
 
 -- The counts of line 1 within their limits.
 pub record Limited (i g o : ℕ) : Type 0 where

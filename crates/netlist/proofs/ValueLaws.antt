@@ -1,20 +1,20 @@
 -- The functions of a file's vertices, outputs and ANDs have the values that plain evaluation gives.
-use mathlib.Core.Bool.{Bool, _&&_, false, not, true, xor}
-use mathlib.Core.List.{List, [], _++_, _∷_, map, map-append}
-use mathlib.Core.Path.{_≡_, ap, ap₂, refl, _∙_}
 use Prim.Native.Nat.{ℕ}
-use lib.ListN.{getD, length}
 use Rattle.netlist.proofs.MeaningLaws.{ands-length}
 use Rattle.netlist.specs.Meaning.{andCount, andResult, andsFrom, fileAndValues, fileAnds, fileFunction, fileFunctions, fileValue, fileValues, fromAnds, gateAnds, gateResult, operationFunction, operationValue, referenceFunction, referenceValue, vertexResults}
 use Rattle.netlist.specs.Netlist.{Gate, Netlist}
-use Rattle.netlist.specs.declared.records.Operation.{Operation}
 use Rattle.netlist.specs.declared.records.Operation.the-variants.{And, Or, Xor}
+use Rattle.netlist.specs.declared.records.Operation.{Operation}
 use Rattle.table.proofs.FunctionLaws.{values-at, values-functions}
 use Rattle.table.proofs.MeaningLaws.{literal-mapped}
 use Rattle.table.specs.Table.{firstFunctions, functionsOf, valuesOn}
 use Rattle.table.specs.Values.{vertexValues}
 use Rattle.truth.proofs.Values.{value-conj, value-disj, value-exclusive, value-invert}
 use Rattle.truth.specs.Truth.{Setting, Truth, conj, constantly, disj, exclusive, invert, valueAt}
+use lib.ListN.{getD, length}
+use mathlib.Core.Bool.{Bool, _&&_, false, not, true, xor}
+use mathlib.Core.List.{List, [], _++_, _∷_, map, map-append}
+use mathlib.Core.Path.{_≡_, ap, ap₂, refl, _∙_}
 
 -- A gate's function is the stated inversion of its ANDs.
 pub function-from-ands :

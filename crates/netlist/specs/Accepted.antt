@@ -1,14 +1,14 @@
 -- What an accepted file holds.
-use mathlib.Core.List.{List}
-use mathlib.Core.Path.{_≡_}
 use Prim.Native.Nat.{_+_, _≤_, ℕ}
-use lib.ListN.{drop, length}
 use Rattle.netlist.specs.Check.{read, readNetlist}
 use Rattle.netlist.specs.Meaning.{andCount}
 use Rattle.netlist.specs.Netlist.{Netlist, Within, bodyRecords, bytesOf, netlistRecords}
 use Rattle.netlist.specs.Records.{fileRecords}
 use Rattle.netlist.specs.declared.check.Summary.{Summary}
 use Rattle.text.specs.Split.{upTo}
+use lib.ListN.{drop, length}
+use mathlib.Core.List.{List}
+use mathlib.Core.Path.{_≡_}
 
 -- The counts of a netlist whose gate lines start at a place.
 abbrev pub summaryOf : ℕ → Netlist → Summary

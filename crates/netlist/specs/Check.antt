@@ -1,26 +1,26 @@
 -- A file read line by line: the tests 2 to 6, and the netlist that an accepted file holds.
-use mathlib.Core.Bool.{_&&_, cond}
-use mathlib.Core.List.{List, [], _∷_}
 use Prim.Native.Nat.{_*_, _+_, ℕ}
-use lib.Dec.{eqb, leb, ltb}
-use lib.ListN.{length}
 use Rattle.netlist.specs.Limits.{edition, maxGates}
 use Rattle.netlist.specs.Netlist as netlist
 use Rattle.netlist.specs.Netlist.{Netlist}
 use Rattle.netlist.specs.Records.{fileRecords}
 use Rattle.netlist.specs.declared.check.Body.{Body}
-use Rattle.netlist.specs.declared.check.Checked.{Checked}
 use Rattle.netlist.specs.declared.check.Checked.the-variants.{Accepted, Refused}
-use Rattle.netlist.specs.declared.check.Due.{Due}
+use Rattle.netlist.specs.declared.check.Checked.{Checked}
 use Rattle.netlist.specs.declared.check.Due.the-variants.{First, Later}
-use Rattle.netlist.specs.declared.check.Stepped.{Stepped}
+use Rattle.netlist.specs.declared.check.Due.{Due}
 use Rattle.netlist.specs.declared.check.Stepped.the-variants.{Next, Refuse}
-use Rattle.netlist.specs.declared.records.Operation.{Operation}
+use Rattle.netlist.specs.declared.check.Stepped.{Stepped}
 use Rattle.netlist.specs.declared.records.Operation.the-variants.{And, Or, Xor}
-use Rattle.netlist.specs.declared.records.Record.{Record}
+use Rattle.netlist.specs.declared.records.Operation.{Operation}
 use Rattle.netlist.specs.declared.records.Record.the-variants.{Gate, Header, Malformed, Output}
+use Rattle.netlist.specs.declared.records.Record.{Record}
 use Rattle.table.specs.Limits.{maxInputs, maxOutputs}
 use Rattle.text.specs.Split.{upTo}
+use lib.Dec.{eqb, leb, ltb}
+use lib.ListN.{length}
+use mathlib.Core.Bool.{_&&_, cond}
+use mathlib.Core.List.{List, [], _∷_}
 
 -- "`and` and `or` stand for one AND each", "`xor` stands for three ANDs"
 abbrev pub andsOf : Operation → ℕ

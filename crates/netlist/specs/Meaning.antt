@@ -1,15 +1,15 @@
 -- What a file means: values by plain evaluation, and the ANDs that its gates stand for.
-use mathlib.Core.Bool.{Bool, _&&_, _||_, false, not, xor}
-use mathlib.Core.List.{List, [], _++_, _∷_}
 use Prim.Native.Nat.{_+_, ℕ}
-use lib.ListN.{getD}
 use Rattle.aig.specs.Values.{literalValue}
 use Rattle.netlist.specs.Check.{andsOf}
 use Rattle.netlist.specs.Netlist.{Gate, Netlist}
-use Rattle.netlist.specs.declared.records.Operation.{Operation}
 use Rattle.netlist.specs.declared.records.Operation.the-variants.{And, Or, Xor}
+use Rattle.netlist.specs.declared.records.Operation.{Operation}
 use Rattle.table.specs.Table.{firstFunctions}
 use Rattle.truth.specs.Truth.{Setting, Truth, conj, constantly, disj, exclusive, invert}
+use lib.ListN.{getD}
+use mathlib.Core.Bool.{Bool, _&&_, _||_, false, not, xor}
+use mathlib.Core.List.{List, [], _++_, _∷_}
 
 -- "`or` is the inversion of (not p) and (not q). `xor` stands for three ANDs in this order: p with not q, not p with q, then the
 -- inversions of these two results": the operands of the ANDs that a gate stands for, over bits or over functions.

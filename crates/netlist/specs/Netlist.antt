@@ -1,16 +1,16 @@
 -- A netlist, and the bytes of its file.
-use mathlib.Core.List.{List, [], _++_, _∷_, map}
 use Prim.Native.Nat.{_*_, _+_, _<_, _≤_, suc, ℕ}
-use lib.ListN.{length}
 use Rattle.netlist.specs.Limits.{edition, maxGates}
 use Rattle.netlist.specs.Records.{operationBytes}
 use Rattle.netlist.specs.declared.records.Operation.{Operation}
-use Rattle.netlist.specs.declared.records.Record.{Record}
-use Rattle.netlist.specs.declared.records.Record.the-variants.{Header, Malformed, Output}
 use Rattle.netlist.specs.declared.records.Record.the-variants as kinds
+use Rattle.netlist.specs.declared.records.Record.the-variants.{Header, Malformed, Output}
+use Rattle.netlist.specs.declared.records.Record.{Record}
 use Rattle.table.specs.Limits.{maxInputs, maxOutputs}
 use Rattle.text.specs.Decimal.{decimal}
 use Rattle.text.specs.Split.{join}
+use lib.ListN.{length}
+use mathlib.Core.List.{List, [], _++_, _∷_, map}
 
 -- "Then one line a gate: `G⇥op⇥p⇥q`"
 pub record Gate : Type 0 where

@@ -1,16 +1,16 @@
 -- What holds while a file is passed line by line.
-use mathlib.Core.Bool.{cond}
-use mathlib.Core.List.{List}
 use Prim.Native.Nat.{_*_, _+_, _≤_, ℕ}
 use Rattle.netlist.specs.Limits.{maxGates}
 use Rattle.netlist.specs.Records.{recordOf}
 use Rattle.netlist.specs.declared.check.Body.{Body}
-use Rattle.netlist.specs.declared.check.Due.{Due}
 use Rattle.netlist.specs.declared.check.Due.the-variants.{First, Later}
-use Rattle.netlist.specs.declared.records.Record.{Record}
+use Rattle.netlist.specs.declared.check.Due.{Due}
 use Rattle.netlist.specs.declared.records.Record.the-variants.{Malformed}
+use Rattle.netlist.specs.declared.records.Record.{Record}
 use Rattle.table.specs.Limits.{maxInputs, maxOutputs}
 use Rattle.text.specs.Split.{has, upTo}
+use mathlib.Core.Bool.{cond}
+use mathlib.Core.List.{List}
 
 -- The record of the first of some bytes' lines: "2. The line is not an N, G or O record of this layout or has no end byte."
 unfoldable pub lineRecord : List ℕ → Record

@@ -1,20 +1,20 @@
 -- Lines and their records.
-use mathlib.Core.Bool.{Bool, _&&_, cond}
-use mathlib.Core.List.{List, [], _∷_}
 use Prim.Native.Nat.{ℕ}
-use lib.Dec.{eqb}
-use lib.ListN.{getD, length}
-use Rattle.netlist.specs.declared.records.Operation.{Operation}
 use Rattle.netlist.specs.declared.records.Operation.the-variants.{And, Or, Xor}
-use Rattle.netlist.specs.declared.records.OperationField.{OperationField}
+use Rattle.netlist.specs.declared.records.Operation.{Operation}
 use Rattle.netlist.specs.declared.records.OperationField.the-variants.{Named, Unknown}
-use Rattle.netlist.specs.declared.records.Record.{Record}
+use Rattle.netlist.specs.declared.records.OperationField.{OperationField}
 use Rattle.netlist.specs.declared.records.Record.the-variants.{Gate, Header, Malformed, Output}
+use Rattle.netlist.specs.declared.records.Record.{Record}
 use Rattle.text.specs.Bytes.{sameBytes}
 use Rattle.text.specs.Numerals.{numeralOf}
 use Rattle.text.specs.Split.{splitAt}
-use Rattle.text.specs.declared.numerals.Numeral.{Numeral}
 use Rattle.text.specs.declared.numerals.Numeral.the-variants.{Malformed as Unread, Value}
+use Rattle.text.specs.declared.numerals.Numeral.{Numeral}
+use lib.Dec.{eqb}
+use lib.ListN.{getD, length}
+use mathlib.Core.Bool.{Bool, _&&_, cond}
+use mathlib.Core.List.{List, [], _∷_}
 
 -- "where op is exactly the bytes `and`, `or` or `xor`"
 abbrev pub operationBytes : Operation → List ℕ

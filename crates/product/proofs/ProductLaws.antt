@@ -7,13 +7,13 @@ use Rattle.bdd.specs.Diagram.{denote}
 use Rattle.bdd.specs.Split.{EndsAt, GoesOn, Halved}
 use Rattle.bdd.specs.Unique.{MadeAt, MadeFull}
 use Rattle.bdd.specs.declared.references.Halves.{Halves}
+use Rattle.product_model.proofs.Cases.{count-room}
+use Rattle.product_model.proofs.Equations.{run-both, run-terminal}
+use Rattle.product_model.specs.Run.{Book, Outcome, _andThen_, addRow, run}
 use Rattle.product.proofs.RunLaws.{conj-lift, row-full, row-made, run-lift, spent}
 use Rattle.product.specs.Product.{Ask, Denotes, Multiplied, bookOf, outcomeOf}
 use Rattle.product.specs.declared.Product.the-variants.{Done, ShortOfRows, ShortOfSteps}
 use Rattle.product.specs.declared.Product.{Product}
-use Rattle.product_model.proofs.Cases.{count-room}
-use Rattle.product_model.proofs.Equations.{run-both, run-terminal}
-use Rattle.product_model.specs.Run.{Book, Outcome, _andThen_, addRow, run}
 use Rattle.truth.specs.Parts.{depends?}
 use Rattle.truth.specs.Steps.{terminal?}
 use Rattle.truth.specs.Truth.{Truth, conj, node}

@@ -5,11 +5,11 @@ use Rattle.bdd.proofs.StoreLaws.{store-length}
 use Rattle.bdd.specs.Diagram.{denote}
 use Rattle.bdd.specs.Rows.{levelAt}
 use Rattle.bdd.specs.Unique.{MadeAt, MadeFull, addPart, join}
-use Rattle.product.specs.Product.{bookOf}
 use Rattle.product_model.proofs.Cases.{add-found, add-full, add-new}
 use Rattle.product_model.proofs.Equations.{run-skip}
 use Rattle.product_model.specs.Run as model
 use Rattle.product_model.specs.Run.{Book, Outcome, _andThen_, addRow, countStep, done, plain, run, shortOfRows, shortOfSteps}
+use Rattle.product.specs.Product.{bookOf}
 use Rattle.truth.proofs.Booleans.{clash}
 use Rattle.truth.specs.Distinct.{among}
 use Rattle.truth.specs.Parts.{alike?, depends?}

@@ -1,11 +1,11 @@
 -- The computed cards hold.
-use mathlib.Core.Path.{refl}
 use Rattle.product_model.specs.Cards.{InverseStored, NoRowNoStep, ProductOfTwo, ZeroBeforeOne}
 use Rattle.product_model.specs.Run.{_andThen_, addPart, addRow, countStep, plain, run}
 use Rattle.truth.specs.Distinct.{among}
 use Rattle.truth.specs.Parts.{alike?, depends?}
 use Rattle.truth.specs.Steps.{terminal?}
 use Rattle.truth.specs.Truth.{conj, constant?, constantly, disj, input, invert, same?, valueAt}
+use mathlib.Core.Path.{refl}
 
 pub product-of-two : ProductOfTwo
 unfolding addPart addRow _andThen_ countStep plain run among alike? depends? terminal? conj constant? constantly disj input invert same? valueAt

@@ -1,15 +1,15 @@
 -- The cases of counting one step and of adding one part.
-use mathlib.Core.Bool.{Bool, cond, false, true}
-use mathlib.Core.Path.{_≡_, refl}
 use Prim.Native.Nat.{_<_, _≤_, ℕ}
-use native.Mathlib.Omega.{arith}
-use borrow.Author.Tests.{le-ltb, lt-ltb, ltb-false, ltb-true}
-use lib.Dec.{ltb}
-use lib.ListN.{length}
 use Rattle.product_model.specs.Run.{Book, Outcome, addPart, countStep, done, shortOfRows, shortOfSteps, withRow, withStep}
 use Rattle.truth.specs.Distinct.{among}
 use Rattle.truth.specs.Parts.{alike?}
 use Rattle.truth.specs.Truth.{Truth}
+use borrow.Author.Tests.{le-ltb, lt-ltb, ltb-false, ltb-true}
+use lib.Dec.{ltb}
+use lib.ListN.{length}
+use mathlib.Core.Bool.{Bool, cond, false, true}
+use mathlib.Core.Path.{_≡_, refl}
+use native.Mathlib.Omega.{arith}
 
 -- Two constructors are never equal.
 pub impossible : {A : Type 0} → _≡_ {A = ℕ} 0 1 → A

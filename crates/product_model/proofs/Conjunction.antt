@@ -1,10 +1,5 @@
 -- The parts of a conjunction, in each of the three ways in which a run goes on.
-use mathlib.Core.Bool.{Bool, _&&_, _||_, and-comm, and-false, and-not-self, and-self, and-true, cond, false, not, or-comm, or-false, or-self, true}
-use mathlib.Core.List.{List, [], _++_, _∷_, append-nil}
-use mathlib.Core.Logic.{⊎-elim}
-use mathlib.Core.Path.{_∙_, _≡_, ap, ap₂, refl, sym}
 use Prim.Native.Nat.{ℕ}
-use borrow.Author.Tests.{not-false}
 use Rattle.product_model.proofs.Members.{within-none}
 use Rattle.truth.proofs.Booleans.{clash, or-cases}
 use Rattle.truth.proofs.Distinct.{Within, among-append}
@@ -15,6 +10,11 @@ use Rattle.truth.specs.Distinct.{among}
 use Rattle.truth.specs.Parts.{alike?, depends?, parts}
 use Rattle.truth.specs.Steps.{terminal?}
 use Rattle.truth.specs.Truth.{Perfect, Setting, Truth, conj, constant?, constantly, invert, leaf, node, same?, valueAt}
+use borrow.Author.Tests.{not-false}
+use mathlib.Core.Bool.{Bool, _&&_, _||_, and-comm, and-false, and-not-self, and-self, and-true, cond, false, not, or-comm, or-false, or-self, true}
+use mathlib.Core.List.{List, [], _++_, _∷_, append-nil}
+use mathlib.Core.Logic.{⊎-elim}
+use mathlib.Core.Path.{_∙_, _≡_, ap, ap₂, refl, sym}
 
 -- What the conjunction of a terminal pair is.
 pub data Ends (m : ℕ) (f g : Truth) : Type 0 where

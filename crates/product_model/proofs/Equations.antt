@@ -1,12 +1,12 @@
 -- A run by its cases.
-use mathlib.Core.Bool.{Bool, _&&_, _||_, and-self, cond, false, true}
-use mathlib.Core.Path.{_≡_, ap₂, refl, sym}
 use Prim.Native.Nat.{ℕ}
 use Rattle.product_model.specs.Run.{Book, _andThen_, addRow, countStep, run}
 use Rattle.truth.proofs.Equality.{same-reflexive}
 use Rattle.truth.specs.Parts.{alike?, depends?}
 use Rattle.truth.specs.Steps.{terminal?}
 use Rattle.truth.specs.Truth.{Truth, conj, constant?, invert, leaf, node, same?}
+use mathlib.Core.Bool.{Bool, _&&_, _||_, and-self, cond, false, true}
+use mathlib.Core.Path.{_≡_, ap₂, refl, sym}
 
 terminal-skip : (f g : Truth) → terminal? (node f f) (node g g) ≡ terminal? f g
 unfolding terminal? constant? alike? same? invert

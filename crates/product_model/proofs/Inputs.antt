@@ -1,10 +1,5 @@
 -- The row of an input.
-use mathlib.Core.Bool.{false, true}
-use mathlib.Core.List.{[], _∷_}
-use mathlib.Core.Path.{_∙_, _≡_, ap, refl, sym}
 use Prim.Native.Nat.{_-_, _<_, suc, zero, ℕ}
-use native.Mathlib.Nat.{sub-zero}
-use native.Mathlib.Omega.{arith}
 use Rattle.product_model.proofs.Conjunction.{parts-skip}
 use Rattle.product_model.proofs.Ran.{Proper, Ran, add-ran, ran-as}
 use Rattle.product_model.specs.Run.{Book, addPart}
@@ -12,6 +7,11 @@ use Rattle.truth.proofs.Parts.{constants-differ, parts-constant, parts-node}
 use Rattle.truth.specs.Distinct.{among}
 use Rattle.truth.specs.Parts.{alike?, parts}
 use Rattle.truth.specs.Truth.{Truth, constantly, input}
+use mathlib.Core.Bool.{false, true}
+use mathlib.Core.List.{[], _∷_}
+use mathlib.Core.Path.{_∙_, _≡_, ap, refl, sym}
+use native.Mathlib.Nat.{sub-zero}
+use native.Mathlib.Omega.{arith}
 
 -- "Each input gets its row": input i + 1 of n has one part, the first of the n - i inputs that are left from it on.
 pub parts-input : (n i : ℕ) → i < n → (t : Truth) → among alike? t (input (n - i) 1 ∷ []) ≡ among alike? t (parts (input n (suc i)))

@@ -1,13 +1,13 @@
 -- What counting a step and adding a part keep of a book, a run keeps.
-use mathlib.Core.Bool.{Bool, _||_, cond, false, true}
-use mathlib.Core.Path.{_≡_, refl}
 use Prim.Native.Nat.{_≤_, ℕ}
-use native.Mathlib.Omega.{arith}
 use Rattle.product_model.proofs.Cases.{Adding, Counting, add-cases, count-cases, found, full, new, room, spent}
 use Rattle.product_model.specs.Run.{Book, Outcome, _andThen_, addPart, addRow, bookOf, countStep, done, run, shortOfRows, shortOfSteps, withRow}
 use Rattle.truth.specs.Parts.{depends?}
 use Rattle.truth.specs.Steps.{terminal?}
 use Rattle.truth.specs.Truth.{Truth, conj, leaf, node, same?}
+use mathlib.Core.Bool.{Bool, _||_, cond, false, true}
+use mathlib.Core.Path.{_≡_, refl}
+use native.Mathlib.Omega.{arith}
 
 -- A relation of a book and an outcome that holds of one step, of one part and of no change, and of what follows on another.
 pub record Keeps (rowLimit stepLimit : ℕ) (K : Book → Outcome → Type 0) : Type 0 where

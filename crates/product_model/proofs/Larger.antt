@@ -1,13 +1,13 @@
 -- Larger limits change nothing in a run that is done.
-use mathlib.Core.Bool.{Bool, _||_, cond, false, true}
-use mathlib.Core.Path.{_∙_, _≡_, refl}
 use Prim.Native.Nat.{_≤_, ℕ}
-use native.Mathlib.Omega.{arith}
 use Rattle.product_model.proofs.Cases.{Adding, Counting, add-cases, add-found, add-new, count-cases, count-room, found, full, impossible, new, room, spent}
 use Rattle.product_model.specs.Run.{Book, Outcome, _andThen_, addPart, addRow, countStep, done, run, shortOfRows, shortOfSteps}
 use Rattle.truth.specs.Parts.{depends?}
 use Rattle.truth.specs.Steps.{terminal?}
 use Rattle.truth.specs.Truth.{Truth, conj, leaf, node, same?}
+use mathlib.Core.Bool.{Bool, _||_, cond, false, true}
+use mathlib.Core.Path.{_∙_, _≡_, refl}
+use native.Mathlib.Omega.{arith}
 
 -- Where the first outcome is done, the second is the same.
 abbrev pub Follows : Outcome → Outcome → Type 0

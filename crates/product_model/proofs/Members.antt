@@ -1,11 +1,11 @@
 -- Laws of lists whose members are all members of another.
+use Rattle.truth.proofs.Booleans.{and-left, clash, not-true, or-cases, or-left, or-right}
+use Rattle.truth.proofs.Distinct.{Within, among-append, among-congruent}
+use Rattle.truth.specs.Distinct.{Sameness, among, apart}
 use mathlib.Core.Bool.{Bool, not, or-false, true}
 use mathlib.Core.List.{List, [], _++_, _∷_}
 use mathlib.Core.Logic.{⊎-elim}
 use mathlib.Core.Path.{_∙_, _≡_, ap, refl, sym}
-use Rattle.truth.proofs.Booleans.{and-left, clash, not-true, or-cases, or-left, or-right}
-use Rattle.truth.proofs.Distinct.{Within, among-append, among-congruent}
-use Rattle.truth.specs.Distinct.{Sameness, among, apart}
 
 module _ {A : Type 0} (same : A → A → Bool) where
   -- The empty list has no members.

@@ -1,14 +1,14 @@
 -- The laws of adding a part by itself.
-use mathlib.Core.List.{[], _∷_}
-use mathlib.Core.Path.{_≡_}
 use Prim.Native.Nat.{_≤_, ℕ}
-use native.Mathlib.Omega.{arith}
-use lib.ListN.{length}
 use Rattle.product_model.proofs.Ran.{Done, Proper, ShortOfRows, add-ran, enough, is-done, is-short-of-rows, is-short-of-steps}
 use Rattle.product_model.specs.Run.{Book, addPart, done, shortOfRows, shortOfSteps}
 use Rattle.truth.specs.Distinct.{distinct}
 use Rattle.truth.specs.Parts.{alike?}
 use Rattle.truth.specs.Truth.{Truth}
+use lib.ListN.{length}
+use mathlib.Core.List.{[], _∷_}
+use mathlib.Core.Path.{_≡_}
+use native.Mathlib.Omega.{arith}
 
 module _ {rowLimit stepLimit : ℕ} {b : Book} (P : Proper rowLimit stepLimit b) (f : Truth) where
   -- Done: no step, and the row of f.

@@ -1,8 +1,4 @@
 -- The plain form: one function stands for itself and its inverse.
-use mathlib.Core.Bool.{Bool, cond, false, not, true}
-use mathlib.Core.List.{[]}
-use mathlib.Core.Logic.{⊎-elim}
-use mathlib.Core.Path.{_∙_, _≡_, ap, refl, sym}
 use Prim.Native.Nat.{ℕ}
 use Rattle.product_model.specs.Run.{plain}
 use Rattle.truth.proofs.Equality.{alike-cases, equal-alike, invert-twice}
@@ -10,6 +6,10 @@ use Rattle.truth.proofs.Parts.{alike-invert}
 use Rattle.truth.proofs.Values.{perfect-invert, value-invert}
 use Rattle.truth.specs.Parts.{alike?}
 use Rattle.truth.specs.Truth.{Perfect, Truth, invert, valueAt}
+use mathlib.Core.Bool.{Bool, cond, false, not, true}
+use mathlib.Core.List.{[]}
+use mathlib.Core.Logic.{⊎-elim}
+use mathlib.Core.Path.{_∙_, _≡_, ap, refl, sym}
 
 -- It is false on the all-zero setting.
 pub plain-false : (f : Truth) → valueAt (plain f) [] ≡ false

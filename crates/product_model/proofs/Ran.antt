@@ -1,11 +1,5 @@
 -- What a run leaves, for each of its three endings: proved once, by induction over the two functions.
-use mathlib.Core.Bool.{Bool, _||_, cond, false, true}
-use mathlib.Core.List.{List, List·Memᴰ, List·Memᴰ·append-cases, List·Memᴰ·eq-of-singleton, List·Memᴰ·not-nil, [], _++_, _∷_, append-assoc}
-use mathlib.Core.Logic.{⊎-elim}
-use mathlib.Core.Path.{_∙_, _≡_, ap, refl, sym}
 use Prim.Native.Nat.{_+_, _<_, _≤_, ℕ}
-use native.Mathlib.Omega.{arith}
-use lib.ListN.{length}
 use Rattle.product_model.proofs.Cases.{Adding, Counting, add-cases, count-cases, found, full, impossible, new, room, spent}
 use Rattle.product_model.proofs.Conjunction.{parts-made, parts-passed, terminal-leaves, terminal-stored}
 use Rattle.product_model.proofs.Members.{within-append, within-left, within-none, within-one, within-right}
@@ -19,6 +13,12 @@ use Rattle.truth.specs.Distinct.{among, apart, distinct}
 use Rattle.truth.specs.Parts.{alike?, depends?, parts}
 use Rattle.truth.specs.Steps.{steps, terminal?}
 use Rattle.truth.specs.Truth.{Perfect, Truth, conj, halves, leaf, node, same?, valueAt, whole}
+use lib.ListN.{length}
+use mathlib.Core.Bool.{Bool, _||_, cond, false, true}
+use mathlib.Core.List.{List, List·Memᴰ, List·Memᴰ·append-cases, List·Memᴰ·eq-of-singleton, List·Memᴰ·not-nil, [], _++_, _∷_, append-assoc}
+use mathlib.Core.Logic.{⊎-elim}
+use mathlib.Core.Path.{_∙_, _≡_, ap, refl, sym}
+use native.Mathlib.Omega.{arith}
 
 -- Every part of f has its row.
 abbrev pub Stored : Truth → List Truth → Type 0

@@ -1,14 +1,14 @@
 -- The laws of a run of two functions that have their rows, from a book within its limits.
-use mathlib.Core.List.{_++_}
-use mathlib.Core.Path.{_≡_}
 use Prim.Native.Nat.{_+_, _≤_, ℕ}
-use lib.ListN.{length}
 use Rattle.product_model.proofs.Ran.{Done, Proper, ShortOfRows, ShortOfSteps, Stored, enough, is-done, is-short-of-rows, is-short-of-steps, run-ran}
 use Rattle.product_model.specs.Run.{Book, done, run, shortOfRows, shortOfSteps}
 use Rattle.truth.specs.Distinct.{distinct}
 use Rattle.truth.specs.Parts.{alike?, parts}
 use Rattle.truth.specs.Steps.{steps}
 use Rattle.truth.specs.Truth.{Perfect, Truth, conj}
+use lib.ListN.{length}
+use mathlib.Core.List.{_++_}
+use mathlib.Core.Path.{_≡_}
 
 module _ {rowLimit stepLimit : ℕ} {m : ℕ} {f g : Truth} {b : Book} (p : Perfect m f) (q : Perfect m g)
     (P : Proper rowLimit stepLimit b) (v : Stored f (b .store)) (w : Stored g (b .store)) where

@@ -1,9 +1,5 @@
 -- What the endings say of the store: which rows it has, and how many.
-use mathlib.Core.Bool.{_||_, or-comm}
-use mathlib.Core.List.{List, _++_, _∷_}
-use mathlib.Core.Path.{_∙_, _≡_, ap, sym}
 use Prim.Native.Nat.{_<_, ℕ}
-use lib.ListN.{length}
 use Rattle.product_model.proofs.Members.{apart-none, within-append}
 use Rattle.product_model.proofs.Ran.{Done, Grown, Proper, ShortOfRows, grown-from, kept}
 use Rattle.product_model.specs.Run.{Book}
@@ -13,6 +9,10 @@ use Rattle.truth.proofs.Parts.{alike-sameness}
 use Rattle.truth.specs.Distinct.{among, distinct}
 use Rattle.truth.specs.Parts.{alike?, allParts, parts, together}
 use Rattle.truth.specs.Truth.{Truth}
+use lib.ListN.{length}
+use mathlib.Core.Bool.{_||_, or-comm}
+use mathlib.Core.List.{List, _++_, _∷_}
+use mathlib.Core.Path.{_∙_, _≡_, ap, sym}
 
 -- The rows are the parts of these functions.
 pub record Holds (b : Book) (fs : List Truth) : Type 0 where

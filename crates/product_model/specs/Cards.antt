@@ -1,9 +1,9 @@
 -- Computed cards of products of functions of two and three inputs.
+use Rattle.product_model.specs.Run.{Book, done, run, shortOfRows, shortOfSteps}
+use Rattle.truth.specs.Truth.{Truth, conj, disj, input, invert, leaf, node}
 use mathlib.Core.Bool.{false, true}
 use mathlib.Core.List.{List, [], _∷_}
 use mathlib.Core.Path.{_≡_}
-use Rattle.product_model.specs.Run.{Book, done, run, shortOfRows, shortOfSteps}
-use Rattle.truth.specs.Truth.{Truth, conj, disj, input, invert, leaf, node}
 
 -- Inputs 1 and 2, of two, and their rows: input 2's is the function of one input that is left after input 1.
 abbrev pub a : Truth

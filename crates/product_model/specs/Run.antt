@@ -1,11 +1,11 @@
 -- The product of two decision diagrams as a run over truth tables, with a limit on rows and a limit on steps.
-use mathlib.Core.Bool.{_||_, cond}
-use mathlib.Core.List.{List, _∷_}
 use Prim.Native.Nat.{_+_, ℕ}
-use lib.Dec.{ltb}
-use lib.ListN.{length}
 use Rattle.truth.specs.Distinct.{among}
 use Rattle.truth.specs.Parts.{alike?, depends?}
+use lib.Dec.{ltb}
+use lib.ListN.{length}
+use mathlib.Core.Bool.{_||_, cond}
+use mathlib.Core.List.{List, _∷_}
 unfoldable pub use Rattle.truth.specs.Parts.{plain}
 use Rattle.truth.specs.Steps.{terminal?}
 use Rattle.truth.specs.Truth.{Truth, conj, leaf, node, same?}

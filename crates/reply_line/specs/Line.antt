@@ -2,14 +2,14 @@
 use Prim.Native.Nat.{_+_, ℕ}
 use Rattle.netlist.specs.Limits.{edition}
 use Rattle.report.specs.Report.{LINE-ROOM, refusedLine, replyLine}
-use Rattle.report.specs.declared.fields.Vertex.{Vertex}
 use Rattle.report.specs.declared.fields.Vertex.the-variants.{At, None}
-use Rattle.report.specs.declared.fields.Word.{Word}
+use Rattle.report.specs.declared.fields.Vertex.{Vertex}
 use Rattle.report.specs.declared.fields.Word.the-variants as word
-use Rattle.sweep_model.specs.declared.Cause.{Cause}
+use Rattle.report.specs.declared.fields.Word.{Word}
 use Rattle.sweep_model.specs.declared.Cause.the-variants.{Idle, Rows, Size, Steps}
-use Rattle.sweep_model.specs.declared.Reply.{Reply}
+use Rattle.sweep_model.specs.declared.Cause.{Cause}
 use Rattle.sweep_model.specs.declared.Reply.the-variants.{Different, Equal, Refused, Undecided}
+use Rattle.sweep_model.specs.declared.Reply.{Reply}
 use lib.ListN.{length}
 use mathlib.Core.List.{List, []}
 

@@ -1,10 +1,10 @@
 -- What a reader finds in the lines.
 use Prim.Native.Nat.{ℕ}
 use Rattle.report.specs.Report.{lineOf, wordBytes, settingField, vertexField, replyFields, replyLine, refusedFields, refusedLine}
-use Rattle.report.specs.declared.fields.Vertex.{Vertex}
 use Rattle.report.specs.declared.fields.Vertex.the-variants.{None, At}
-use Rattle.report.specs.declared.fields.Word.{Word}
+use Rattle.report.specs.declared.fields.Vertex.{Vertex}
 use Rattle.report.specs.declared.fields.Word.the-variants.{Equal, Different, Size, Rows, Steps, Idle}
+use Rattle.report.specs.declared.fields.Word.{Word}
 use Rattle.text.proofs.NumeralLaws.{decimal-lacks, digits-lack}
 use Rattle.text.proofs.SplitLaws.{splitAt-append, splitAt-first, splitAt-join}
 use Rattle.text.specs.Decimal.{decimal}

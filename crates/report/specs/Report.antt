@@ -1,9 +1,9 @@
 -- The lines that the program prints, as bytes.
 use Prim.Native.Nat.{ℕ, _≤_}
-use Rattle.report.specs.declared.fields.Vertex.{Vertex}
 use Rattle.report.specs.declared.fields.Vertex.the-variants.{None, At}
-use Rattle.report.specs.declared.fields.Word.{Word}
+use Rattle.report.specs.declared.fields.Vertex.{Vertex}
 use Rattle.report.specs.declared.fields.Word.the-variants.{Equal, Different, Size, Rows, Steps, Idle}
+use Rattle.report.specs.declared.fields.Word.{Word}
 use Rattle.text.specs.Decimal.{decimal, Stored}
 use Rattle.text.specs.Split.{join}
 use lib.Dec.{ltb}

@@ -1,13 +1,5 @@
 -- Marks, rows and steps of a state: the rows are the parts of the functions marked 1, the steps those of the ANDs marked 1 or 2.
-use mathlib.Core.Bool.{false, true}
-use mathlib.Core.List.{List, [], map}
-use mathlib.Core.Logic.{_≢_}
-use mathlib.Core.Path.{_∙_, _≡_, ap, refl, sym}
 use Prim.Native.Nat.{_+_, _<_, _≤_, suc, zero, ℕ}
-use native.Mathlib.Decide.{ℕ-discrete}
-use native.Mathlib.Omega.{arith}
-use lib.ListN.{drop, getD, length, replicate, set}
-use lib.Seq.{getD-drop, getD-set-other, getD-set-same}
 use Rattle.product_model.proofs.Ran.{Done, Proper}
 use Rattle.product_model.proofs.Store.{Holds, done-holds}
 use Rattle.product_model.specs.Run.{Book}
@@ -21,6 +13,14 @@ use Rattle.sweep_model.specs.Sweep.{givenBack}
 use Rattle.truth.specs.Distinct.{among, apart}
 use Rattle.truth.specs.Parts.{alike?, allParts, parts, size}
 use Rattle.truth.specs.Truth.{Truth}
+use lib.ListN.{drop, getD, length, replicate, set}
+use lib.Seq.{getD-drop, getD-set-other, getD-set-same}
+use mathlib.Core.Bool.{false, true}
+use mathlib.Core.List.{List, [], map}
+use mathlib.Core.Logic.{_≢_}
+use mathlib.Core.Path.{_∙_, _≡_, ap, refl, sym}
+use native.Mathlib.Decide.{ℕ-discrete}
+use native.Mathlib.Omega.{arith}
 
 -- What the mark of a vertex says: the constant has none; 2 only at a made vertex larger than the size limit; a made vertex marked 1 is not larger; one
 -- that was merged at entry has none.

@@ -1,12 +1,5 @@
 -- What holds after Size and after Idle, and that Size is not said where the size limit suffices.
-use mathlib.Core.Bool.{cond, false, true}
-use mathlib.Core.List.{List}
-use mathlib.Core.Logic.{_⊎_, _≢_, inl, inr, ⊎-elim}
-use mathlib.Core.Path.{_∙_, _≡_, ap, sym}
 use Prim.Native.Nat.{_*_, _<_, _≤_, ℕ}
-use native.Mathlib.Decide.{decLt}
-use native.Mathlib.Omega.{arith}
-use borrow.Author.Tests.{eqb-true}
 use Rattle.aig.specs.Literal.{vertexOf}
 use Rattle.aig.specs.Lookup.{firstWord, secondWord}
 use Rattle.sweep_model.proofs.Halt.{Resting, sweep-quiet}
@@ -29,6 +22,13 @@ use Rattle.sweep_model.specs.Sweep.{sweep, undecided}
 use Rattle.sweep_model.specs.declared.Cause.the-variants.{Idle, Size}
 use Rattle.truth.proofs.Booleans.{bool-cases, clash}
 use Rattle.truth.specs.Parts.{size}
+use borrow.Author.Tests.{eqb-true}
+use mathlib.Core.Bool.{cond, false, true}
+use mathlib.Core.List.{List}
+use mathlib.Core.Logic.{_⊎_, _≢_, inl, inr, ⊎-elim}
+use mathlib.Core.Path.{_∙_, _≡_, ap, sym}
+use native.Mathlib.Decide.{decLt}
+use native.Mathlib.Omega.{arith}
 
 -- A state in which none waits: what is known of its stages, its marks and the sources of its diagrams.
 module _ {p : Problem} {entry : List ℕ} {s : State} (some : 1 ≤ p .first) (rest : Rest p entry s) (reach : Reachable p entry s)

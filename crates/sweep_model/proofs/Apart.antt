@@ -1,14 +1,5 @@
 -- Vertices with diagrams are pairwise neither equal nor inverse, and their rows are stored: what a merger keeps of that.
-use mathlib.Core.Bool.{Bool, _&&_, false, not, true}
-use mathlib.Core.List.{List, []}
-use mathlib.Core.Logic.{_≢_, ⊎-elim}
-use mathlib.Core.Path.{_∙_, _≡_, ap, ap₂, refl, sym}
 use Prim.Native.Nat.{_*_, _-_, _<_, max, min, suc, zero, ℕ}
-use native.Mathlib.Decide.{decLe, ℕ-discrete}
-use native.Mathlib.Omega.{arith}
-use lib.Dec.{leb}
-use lib.ListN.{length, set}
-use lib.Seq.{getD-set-other}
 use Rattle.aig.proofs.LiteralLaws.{vertex-literal}
 use Rattle.aig.specs.Literal.{vertexOf}
 use Rattle.aig.specs.Lookup.{firstWord}
@@ -32,6 +23,15 @@ use Rattle.truth.proofs.Equality.{constant-equal, inverse-alike}
 use Rattle.truth.proofs.Parts.{alike-sameness}
 use Rattle.truth.specs.Parts.{alike?}
 use Rattle.truth.specs.Truth.{Truth, constant?, constantly, invert, node, same?, valueAt}
+use lib.Dec.{leb}
+use lib.ListN.{length, set}
+use lib.Seq.{getD-set-other}
+use mathlib.Core.Bool.{Bool, _&&_, false, not, true}
+use mathlib.Core.List.{List, []}
+use mathlib.Core.Logic.{_≢_, ⊎-elim}
+use mathlib.Core.Path.{_∙_, _≡_, ap, ap₂, refl, sym}
+use native.Mathlib.Decide.{decLe, ℕ-discrete}
+use native.Mathlib.Omega.{arith}
 
 -- Two vertices with diagrams whose functions are alike are one.
 abbrev pub Apart : Problem → List Stage → Type 0

@@ -1,9 +1,5 @@
 -- The bound on the turns is never reached.
-use mathlib.Core.Bool.{true}
-use mathlib.Core.List.{List}
-use mathlib.Core.Path.{_∙_, _≡_, refl, sym}
 use Prim.Native.Nat.{_+_, _≤_, suc, zero, ℕ}
-use native.Mathlib.Omega.{arith}
 use Rattle.sweep_model.proofs.Choices.{no-turns-no-pick, pick-waits}
 use Rattle.sweep_model.proofs.Induction.{Claim, Keeps, Reached, endings-keep, go-claim, goes-on, start-claim, stops, turn-claim}
 use Rattle.sweep_model.proofs.Stages.{has-not-gone, stage-within, waits-has}
@@ -12,6 +8,10 @@ use Rattle.sweep_model.proofs.Turns.{turns-set, waiting-turns}
 use Rattle.sweep_model.specs.Fit.{Fit, vertexCount}
 use Rattle.sweep_model.specs.State.{Problem, State, opened, stageOf, waits?}
 use Rattle.sweep_model.specs.Sweep.{Progress, Twin, Verdict, andThen, at, go, goFor, none, on, openAt, pickFrom, start, turnsLeft, turnsOf}
+use mathlib.Core.Bool.{true}
+use mathlib.Core.List.{List}
+use mathlib.Core.Path.{_∙_, _≡_, refl, sym}
+use native.Mathlib.Omega.{arith}
 
 -- A pick takes exactly one turn.
 pub open-turns : (s : State) (v : ℕ) → waits? (stageOf (s .stages) v) ≡ true → turnsLeft (openedAt v s .stages) + 1 ≡ turnsLeft (s .stages)

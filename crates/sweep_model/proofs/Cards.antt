@@ -1,5 +1,4 @@
 -- The bench cards on replies hold, by computation.
-use mathlib.Core.Path.{refl}
 use Rattle.aig.specs.Fold.{foldOf}
 use Rattle.aig.specs.Lookup.{firstVertex, ownWords}
 use Rattle.product_model.specs.Run.{_andThen_, addPart, addRow, countStep, run}
@@ -12,6 +11,7 @@ use Rattle.truth.specs.Parts.{alike?, cofactors, depends?, parts, plain, size}
 use Rattle.truth.specs.Settings.{firstDifference}
 use Rattle.truth.specs.Steps.{terminal?}
 use Rattle.truth.specs.Truth.{conj, constant?, constantly, input, invert, same?, valueAt}
+use mathlib.Core.Path.{refl}
 
 pub sweep-cards : SweepCards
 unfolding foldOf firstVertex ownWords _andThen_ addPart addRow countStep run firstFunctions madeFunctions foldedRow foundRow normalise normaliseFrom normaliseRow resolve takeAt takesFrom wake wakeAt bare? dropped? gone? has? open? waits? andThen answerOf anyDropped? begin cause conclude drop giveRow go goFor inputsFrom look lookAt meet multiply openAt pickFrom ready? scanFrom smaller start sweep swept topPart turnsLeft turnsOf twinFrom visit among distinct filter alike? cofactors depends? parts plain size firstDifference terminal? conj constant? constantly input invert same? valueAt

@@ -1,16 +1,16 @@
 -- What the searches of the sweep find: the twin of a vertex, the vertex that is picked, and no vertex that is dropped.
-use mathlib.Core.Bool.{Bool, _&&_, cond, false, true}
-use mathlib.Core.List.{List, [], _∷_}
-use mathlib.Core.Path.{_∙_, _≡_, ap, refl, subst}
 use Prim.Native.Nat.{_+_, _-_, _<_, _≤_, suc, zero, ℕ}
-use native.Mathlib.Decide.{ℕ-discrete}
-use native.Mathlib.Omega.{arith}
-use lib.Dec.{leb}
 use Rattle.sweep_model.proofs.Turns.{no-turns, waiting-turns}
 use Rattle.sweep_model.specs.State.{Problem, Stage, dropped?, functionOf, has?, stageOf, waits?}
 use Rattle.sweep_model.specs.Sweep.{Twin, anyDropped?, at, none, pickFrom, smaller, turnsLeft, twinFrom}
 use Rattle.truth.proofs.Booleans.{and-left, and-right, clash, not-true, or-left, or-right}
 use Rattle.truth.specs.Parts.{alike?, size}
+use lib.Dec.{leb}
+use mathlib.Core.Bool.{Bool, _&&_, cond, false, true}
+use mathlib.Core.List.{List, [], _∷_}
+use mathlib.Core.Path.{_∙_, _≡_, ap, refl, subst}
+use native.Mathlib.Decide.{ℕ-discrete}
+use native.Mathlib.Omega.{arith}
 
 -- Vertex w has a diagram and the function of vertex v or its inverse.
 pub record IsTwin (p : Problem) (stages : List Stage) (v w : ℕ) : Type 0 where

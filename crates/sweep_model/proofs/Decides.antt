@@ -1,10 +1,5 @@
 -- Limits that suffice decide: the reply is Equal or Different, and Equal exactly where the two functions are equal.
-use mathlib.Core.Bool.{false}
-use mathlib.Core.List.{List, map}
-use mathlib.Core.Logic.{_↔_}
-use mathlib.Core.Path.{_≡_, ap, refl}
 use Prim.Native.Nat.{_<_, _≤_, ℕ}
-use native.Mathlib.Omega.{arith}
 use Rattle.sweep_model.proofs.AfterRest.{size-suffices}
 use Rattle.sweep_model.proofs.NeverIdle.{never-idle}
 use Rattle.sweep_model.proofs.ReplyLaws.{andsUnmerged, functionsUnmerged, rows-short, steps-short}
@@ -17,6 +12,11 @@ use Rattle.sweep_model.specs.Sweep.{Verdict, different, equal, sweep, un
 use Rattle.sweep_model.specs.declared.Cause.the-variants.{Idle, Rows, Size, Steps}
 use Rattle.truth.specs.Parts.{size, together}
 use Rattle.truth.specs.Truth.{Setting, Truth, valueAt}
+use mathlib.Core.Bool.{false}
+use mathlib.Core.List.{List, map}
+use mathlib.Core.Logic.{_↔_}
+use mathlib.Core.Path.{_≡_, ap, refl}
+use native.Mathlib.Omega.{arith}
 
 -- The limits suffice for the vertices that were not merged at entry: none is too large, and together they stay within rows and steps.
 pub record Suffices (p : Problem) (entry : List ℕ) : Type 0 where

@@ -1,14 +1,14 @@
 -- A problem that fits: "The and/or pair above", a AND b against a OR b.
-use mathlib.Core.Bool.{false}
-use mathlib.Core.List.{List, [], _∷_}
-use mathlib.Core.Path.{_≡_, refl}
 use Prim.Native.Nat.{_*_, _<_, _≤_, suc, zero, ℕ}
-use native.Mathlib.Omega.{arith}
 use Rattle.aig.specs.Lookup.{Holds, firstWord, secondWord}
 use Rattle.sweep_model.specs.Fit.{Fit}
 use Rattle.sweep_model.specs.State.{Problem, functionOf, literalFunction}
 use Rattle.truth.proofs.Values.{perfect-conj, perfect-constant, perfect-input, perfect-invert}
 use Rattle.truth.specs.Truth.{Perfect, conj, constantly, input, invert}
+use mathlib.Core.Bool.{false}
+use mathlib.Core.List.{List, [], _∷_}
+use mathlib.Core.Path.{_≡_, refl}
+use native.Mathlib.Omega.{arith}
 
 -- Vertices 0 to 4: the constant, the inputs, a AND b, and the AND of their inversions.
 abbrev pub andAgainstOr : Problem

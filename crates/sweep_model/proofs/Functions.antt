@@ -1,9 +1,9 @@
 -- The functions of vertices and literals. Truth tables of one depth obey the laws of folding.
+use Prim.Native.Nat.{_%_, _*_, ℕ}
+use borrow.Author.Tests.{ne-eqb}
 use mathlib.Core.Bool.{Bool, cond, false}
 use mathlib.Core.Path.{_≡_}
-use Prim.Native.Nat.{_%_, _*_, ℕ}
 use native.Mathlib.Omega.{arith}
-use borrow.Author.Tests.{ne-eqb}
 pub use Rattle.aig.proofs.TruthLaws.{functions as truth-tables}
 use Rattle.aig.proofs.ValuesLaws.{all-good, value-good, value-literal, value-negate}
 use Rattle.aig.specs.Literal.{inverted?, literalOf, negate, vertexOf}

@@ -1,8 +1,4 @@
 -- Where none waits: what the steps of the sweep keep holds of the state that is left after Size and Idle.
-use mathlib.Core.Bool.{Bool, cond, false, true}
-use mathlib.Core.List.{List}
-use mathlib.Core.Logic.{_⊎_, inl, inr}
-use mathlib.Core.Path.{_≡_, refl}
 use Prim.Native.Nat.{ℕ}
 use Rattle.product_model.proofs.Cases.{impossible}
 use Rattle.sweep_model.proofs.Induction.{Keeps, Place, Quiet, sweep-keeps}
@@ -11,6 +7,10 @@ use Rattle.sweep_model.specs.State.{Problem, State}
 use Rattle.sweep_model.specs.Sweep.{Verdict, anyDropped?, cause, different, equal, sweep, undecided}
 use Rattle.sweep_model.specs.declared.Cause.the-variants.{Idle, Rows, Size, Steps}
 use Rattle.truth.specs.Truth.{Setting}
+use mathlib.Core.Bool.{Bool, cond, false, true}
+use mathlib.Core.List.{List}
+use mathlib.Core.Logic.{_⊎_, inl, inr}
+use mathlib.Core.Path.{_≡_, refl}
 
 -- A verdict by Size or Idle.
 abbrev pub Resting : Verdict → Type 0

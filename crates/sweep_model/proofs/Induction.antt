@@ -1,13 +1,5 @@
 -- Induction over the sweep: what each of its steps keeps, the whole keeps.
-use mathlib.Core.Bool.{Bool, _&&_, cond, false, true}
-use mathlib.Core.List.{List, _∷_}
-use mathlib.Core.Logic.{_≢_}
-use mathlib.Core.Path.{_≡_, ap, refl, subst}
 use Prim.Native.Nat.{_+_, _-_, _<_, _≤_, suc, zero, ℕ}
-use native.Mathlib.Omega.{arith}
-use lib.Dec.{eqb, leb, ltb}
-use lib.ListN.{length, replicate}
-use borrow.Author.Tests.{eqb-false, eqb-true, leb-true}
 use Rattle.aig.specs.Literal.{negate, vertexOf}
 use Rattle.aig.specs.Lookup.{firstWord, secondWord}
 use Rattle.product_model.specs.Run.{Book, Outcome, addPart, done, plain, shortOfRows, shortOfSteps}
@@ -24,6 +16,14 @@ use Rattle.truth.specs.Distinct.{among}
 use Rattle.truth.specs.Parts.{alike?, size}
 use Rattle.truth.specs.Settings.{firstDifference}
 use Rattle.truth.specs.Truth.{Truth, same?}
+use borrow.Author.Tests.{eqb-false, eqb-true, leb-true}
+use lib.Dec.{eqb, leb, ltb}
+use lib.ListN.{length, replicate}
+use mathlib.Core.Bool.{Bool, _&&_, cond, false, true}
+use mathlib.Core.List.{List, _∷_}
+use mathlib.Core.Logic.{_≢_}
+use mathlib.Core.Path.{_≡_, ap, refl, subst}
+use native.Mathlib.Omega.{arith}
 
 -- Where the sweep stands: the inputs below a vertex have their rows; or at most so many turns are left and the scan has come to a vertex (between two
 -- turns, past the last).

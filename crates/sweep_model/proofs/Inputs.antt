@@ -1,9 +1,5 @@
 -- The functions of the first vertices: no two are alike; and the row of an input.
-use mathlib.Core.Bool.{false, or-false, true}
-use mathlib.Core.Path.{_∙_, _≡_, ap, ap₂, refl, sym}
 use Prim.Native.Nat.{_-_, _<_, _≤_, suc, zero, ℕ}
-use native.Mathlib.Nat.{sub-zero}
-use native.Mathlib.Omega.{arith}
 use Rattle.product_model.proofs.Inputs.{input-ran, parts-input}
 use Rattle.product_model.proofs.Ran.{Proper, Ran}
 use Rattle.sweep_model.proofs.Steady.{inputRow}
@@ -17,6 +13,10 @@ use Rattle.truth.proofs.Values.{perfect-input}
 use Rattle.truth.specs.Distinct.{among}
 use Rattle.truth.specs.Parts.{alike?, parts}
 use Rattle.truth.specs.Truth.{constantly, input}
+use mathlib.Core.Bool.{false, or-false, true}
+use mathlib.Core.Path.{_∙_, _≡_, ap, ap₂, refl, sym}
+use native.Mathlib.Nat.{sub-zero}
+use native.Mathlib.Omega.{arith}
 
 -- The row of input i + 1 of n is that of the first of the inputs that are left from it on.
 pub top-input : (n i : ℕ) → i < n → topPart (input n (suc i)) ≡ input (n - i) 1

@@ -1,9 +1,5 @@
 -- The sweep keeps every function: rows and outputs at the end stand for what they stood for at entry.
-use mathlib.Core.Bool.{false}
-use mathlib.Core.List.{List}
-use mathlib.Core.Path.{_≡_}
 use Prim.Native.Nat.{_*_, _<_, _≤_, ℕ}
-use native.Mathlib.Omega.{arith}
 use Rattle.aig.proofs.PairsLaws.{pair-map, pair-then, same-pair-value}
 use Rattle.aig.specs.Lookup.{firstWord, secondWord}
 use Rattle.aig.specs.Pairs.{SamePair, straight}
@@ -17,6 +13,10 @@ use Rattle.sweep_model.specs.Sweep.{givenBack, sweep}
 use Rattle.truth.proofs.Steps.{steps-symmetric}
 use Rattle.truth.specs.Steps.{steps}
 use Rattle.truth.specs.Truth.{Truth}
+use mathlib.Core.Bool.{false}
+use mathlib.Core.List.{List}
+use mathlib.Core.Path.{_≡_}
+use native.Mathlib.Omega.{arith}
 
 -- Operands of the same functions, in either order, take the same steps.
 pub pair-steps : {f g f′ g′ : Truth} → SamePair f g f′ g′ → steps f g ≡ steps f′ g′

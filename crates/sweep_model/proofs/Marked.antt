@@ -1,12 +1,5 @@
 -- Those of some things whose mark passes a test: after one mark is written, and among others that pass a weaker test.
-use mathlib.Core.Bool.{Bool, _||_, cond, false, or-assoc, or-comm, true}
-use mathlib.Core.List.{List, [], _++_, _∷_, map}
-use mathlib.Core.Logic.{⊎-elim}
-use mathlib.Core.Path.{_∙_, _≡_, ap, refl, subst, sym}
 use Prim.Native.Nat.{_+_, _-_, _<_, _≤_, suc, zero, ℕ}
-use native.Mathlib.Omega.{arith}
-use lib.ListN.{drop, getD, length, length-drop, set}
-use lib.Seq.{drop-set-add, drop-set-lt, getD-drop}
 use Rattle.aig.specs.Lookup.{firstWord, secondWord}
 use Rattle.sweep_model.specs.Claims.{And, andsFrom, andsOf, marked, sum}
 use Rattle.sweep_model.specs.Fit.{vertexCount}
@@ -18,6 +11,13 @@ use Rattle.truth.proofs.Together.{together-within}
 use Rattle.truth.specs.Distinct.{Sameness, among}
 use Rattle.truth.specs.Parts.{alike?, allParts, parts, together}
 use Rattle.truth.specs.Truth.{Truth}
+use lib.ListN.{drop, getD, length, length-drop, set}
+use lib.Seq.{drop-set-add, drop-set-lt, getD-drop}
+use mathlib.Core.Bool.{Bool, _||_, cond, false, or-assoc, or-comm, true}
+use mathlib.Core.List.{List, [], _++_, _∷_, map}
+use mathlib.Core.Logic.{⊎-elim}
+use mathlib.Core.Path.{_∙_, _≡_, ap, refl, subst, sym}
+use native.Mathlib.Omega.{arith}
 
 -- The second list is the first with x put in somewhere.
 pub data Inserted {A : Type 0} (x : A) : List A → List A → Type 0 where

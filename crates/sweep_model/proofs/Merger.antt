@@ -1,13 +1,5 @@
 -- Two vertices of equal or inverse functions merge: the higher into the lower, and normalising follows.
-use mathlib.Core.Bool.{Bool, cond, false, not, true}
-use mathlib.Core.List.{List}
-use mathlib.Core.Logic.{_≢_, ⊎-elim}
-use mathlib.Core.Path.{_∙_, _≡_, ap, refl, sym}
 use Prim.Native.Nat.{_*_, _-_, _<_, _≤_, max, min, suc, ℕ}
-use native.Mathlib.Decide.{decLe, ℕ-discrete}
-use native.Mathlib.Omega.{arith}
-use lib.ListN.{length, length-set, set}
-use lib.Seq.{getD-set-other, getD-set-same}
 use Rattle.aig.proofs.LiteralLaws.{literal-below, vertex-literal}
 use Rattle.aig.specs.Literal.{literalOf}
 use Rattle.aig.specs.Lookup.{Holds, firstWord, secondWord}
@@ -28,6 +20,14 @@ use Rattle.truth.proofs.Booleans.{clash}
 use Rattle.truth.proofs.Equality.{alike-cases, equal-same, invert-twice, same-equal}
 use Rattle.truth.specs.Parts.{alike?}
 use Rattle.truth.specs.Truth.{Truth, invert, same?}
+use lib.ListN.{length, length-set, set}
+use lib.Seq.{getD-set-other, getD-set-same}
+use mathlib.Core.Bool.{Bool, cond, false, not, true}
+use mathlib.Core.List.{List}
+use mathlib.Core.Logic.{_≢_, ⊎-elim}
+use mathlib.Core.Path.{_∙_, _≡_, ap, refl, sym}
+use native.Mathlib.Decide.{decLe, ℕ-discrete}
+use native.Mathlib.Omega.{arith}
 
 -- The literal of the lower of two vertices, inverted where their functions are inverse.
 abbrev pub lowerLiteral : Problem → ℕ → ℕ → ℕ

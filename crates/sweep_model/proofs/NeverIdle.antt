@@ -1,12 +1,5 @@
 -- Where none waits and none is dropped every unmerged vertex has a diagram; so the sweep never says Idle.
-use mathlib.Core.Bool.{_&&_, false, true}
-use mathlib.Core.List.{List}
-use mathlib.Core.Logic.{_⊎_, _≢_, inl, inr, ⊎-elim}
-use mathlib.Core.Path.{_∙_, _≡_, ap₂, refl, sym}
 use Prim.Native.Nat.{_*_, _<_, _≤_, suc, zero, ℕ}
-use native.Mathlib.Decide.{decLt}
-use native.Mathlib.Omega.{arith}
-use lib.ListN.{length}
 use Rattle.aig.specs.Literal.{vertexOf}
 use Rattle.aig.specs.Lookup.{firstWord, secondWord}
 use Rattle.sweep_model.proofs.Bound.{claim-on}
@@ -24,6 +17,13 @@ use Rattle.sweep_model.specs.State.{Problem, Stage, State, bare?, droppe
 use Rattle.sweep_model.specs.Sweep.{anyDropped?, drop, go, on, start, sweep, swept, turnsLeft, undecided}
 use Rattle.sweep_model.specs.declared.Cause.the-variants.{Idle}
 use Rattle.truth.proofs.Booleans.{clash}
+use lib.ListN.{length}
+use mathlib.Core.Bool.{_&&_, false, true}
+use mathlib.Core.List.{List}
+use mathlib.Core.Logic.{_⊎_, _≢_, inl, inr, ⊎-elim}
+use mathlib.Core.Path.{_∙_, _≡_, ap₂, refl, sym}
+use native.Mathlib.Decide.{decLt}
+use native.Mathlib.Omega.{arith}
 
 -- A state of the sweep in which none waits and no vertex starves.
 pub record Rest (p : Problem) (entry : List ℕ) (s : State) : Type 0 where

@@ -1,25 +1,25 @@
 -- Normalising keeps the rows sound.
-use mathlib.Core.List.{List}
-use mathlib.Core.Path.{_∙_, _≡_, ap₂, refl, sym}
 use Prim.Native.Nat.{_*_, _+_, _<_, _≤_, suc, zero, ℕ}
-use native.Mathlib.Decide.{decLt}
-use native.Mathlib.Omega.{arith}
 use Rattle.aig.proofs.FirstVertexLaws.{found-at}
 use Rattle.aig.proofs.FoldLaws.{pair-below, pair-unfolded, to-below}
 use Rattle.aig.proofs.ValuesLaws.{pair-means, to-means}
 use Rattle.aig.specs.Fold.{foldOf}
 use Rattle.aig.specs.Lookup.{First, firstVertex, firstWord, secondWord}
-use Rattle.aig.specs.declared.fold.Folded.{Folded}
 use Rattle.aig.specs.declared.fold.Folded.the-variants.{Pair, To}
+use Rattle.aig.specs.declared.fold.Folded.{Folded}
 use Rattle.aig.specs.declared.literal.Literal.{Literal}
-use Rattle.aig.specs.declared.lookup.Found.{Found}
 use Rattle.aig.specs.declared.lookup.Found.the-variants.{At, Nothing}
+use Rattle.aig.specs.declared.lookup.Found.{Found}
 use Rattle.sweep_model.proofs.Functions.{all-perfect, own-function, truth-tables}
 use Rattle.sweep_model.proofs.Rows.{merge-sound, resolve-function, resolve-within, row-sound}
 use Rattle.sweep_model.specs.Fit.{Sound, WellFormed, vertexCount}
 use Rattle.sweep_model.specs.Normalise.{foldedRow, foundRow, normaliseFrom, normaliseRow, resolve}
 use Rattle.sweep_model.specs.State.{Problem, functionOf, literalFunction}
 use Rattle.truth.specs.Truth.{conj}
+use mathlib.Core.List.{List}
+use mathlib.Core.Path.{_∙_, _≡_, ap₂, refl, sym}
+use native.Mathlib.Decide.{decLt}
+use native.Mathlib.Omega.{arith}
 
 module _ (p : Problem) (w : WellFormed p) where
   -- A row normalised keeps the rows sound.

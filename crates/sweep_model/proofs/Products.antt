@@ -1,7 +1,4 @@
 -- The product of a vertex whose operands have their rows.
-use mathlib.Core.Bool.{Bool, cond, false, true}
-use mathlib.Core.List.{List}
-use mathlib.Core.Path.{_∙_, _≡_, ap, sym}
 use Prim.Native.Nat.{ℕ}
 use Rattle.aig.specs.Literal.{inverted?, vertexOf}
 use Rattle.aig.specs.Lookup.{firstWord, secondWord}
@@ -20,6 +17,9 @@ use Rattle.truth.proofs.Parts.{alike-invert, alike-sameness, parts-alike}
 use Rattle.truth.specs.Distinct.{among}
 use Rattle.truth.specs.Parts.{alike?, parts}
 use Rattle.truth.specs.Truth.{Truth, invert}
+use mathlib.Core.Bool.{Bool, cond, false, true}
+use mathlib.Core.List.{List}
+use mathlib.Core.Path.{_∙_, _≡_, ap, sym}
 
 -- A literal's function is that of its vertex, or the inverse.
 pub literal-alike : (p : Problem) (r : ℕ) → alike? (literalFunction p r) (functionOf p (vertexOf r)) ≡ true

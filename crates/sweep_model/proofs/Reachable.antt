@@ -1,16 +1,6 @@
 -- What holds of every state that the sweep reaches: marks, rows and steps agree, the rows of vertices with diagrams are stored, no two such vertices are
 -- alike.
-use mathlib.Core.Bool.{Bool, cond, false, true}
-use mathlib.Core.List.{List}
-use mathlib.Core.Logic.{_≢_, _⊎_, inl, inr, ⊎-elim}
-use mathlib.Core.Path.{_∙_, _≡_, ap, refl, sym}
 use Prim.Native.Nat.{_-_, _<_, _≤_, ℕ}
-use native.Mathlib.Decide.{decLt, ℕ-discrete}
-use native.Mathlib.Omega.{arith}
-use lib.Dec.{ltb}
-use lib.ListN.{getD, length, set}
-use lib.Seq.{getD-set-other, getD-set-same}
-use borrow.Author.Tests.{ltb-false, ltb-true}
 use Rattle.product_model.proofs.Members.{within-none}
 use Rattle.product_model.proofs.Ran.{Done, is-done, kept}
 use Rattle.product_model.specs.Run.{Book, done}
@@ -34,6 +24,16 @@ use Rattle.truth.proofs.Booleans.{clash, not-true}
 use Rattle.truth.proofs.Parts.{alike-sameness, parts-constant}
 use Rattle.truth.specs.Distinct.{apart}
 use Rattle.truth.specs.Parts.{alike?, parts, size}
+use borrow.Author.Tests.{ltb-false, ltb-true}
+use lib.Dec.{ltb}
+use lib.ListN.{getD, length, set}
+use lib.Seq.{getD-set-other, getD-set-same}
+use mathlib.Core.Bool.{Bool, cond, false, true}
+use mathlib.Core.List.{List}
+use mathlib.Core.Logic.{_≢_, _⊎_, inl, inr, ⊎-elim}
+use mathlib.Core.Path.{_∙_, _≡_, ap, refl, sym}
+use native.Mathlib.Decide.{decLt, ℕ-discrete}
+use native.Mathlib.Omega.{arith}
 
 -- What the stage of a vertex says of its mark: a bare vertex has none, a dropped one has 2, an input has 1 where it has a diagram and else none.
 pub record StageFits (p : Problem) (v : ℕ) (stage : Stage) (mark : ℕ) : Type 0 where

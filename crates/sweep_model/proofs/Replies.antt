@@ -1,15 +1,5 @@
 -- Rows, steps and marks after every reply.
-use mathlib.Core.Bool.{Bool, _||_, cond, false, or-false, true}
-use mathlib.Core.List.{List, [], _∷_, map}
-use mathlib.Core.Logic.{_↔_, _≢_, _⊎_, inl, inr, ⊎-elim}
-use mathlib.Core.Path.{_∙_, _≡_, ap, refl, sym}
 use Prim.Native.Nat.{_+_, _<_, _≤_, suc, ℕ}
-use native.Mathlib.Decide.{decLt, ℕ-discrete}
-use native.Mathlib.Omega.{arith}
-use lib.Dec.{eqb}
-use lib.ListN.{List·getD-eq-default, drop, getD, length, set}
-use lib.Seq.{getD-drop, getD-set-other, getD-set-same}
-use borrow.Author.Tests.{ne-eqb}
 use Rattle.product_model.proofs.Cases.{impossible}
 use Rattle.product_model.proofs.Ran.{Proper, ShortOfRows, ShortOfSteps, Stored, is-short-of-rows, is-short-of-steps}
 use Rattle.product_model.proofs.Store.{Holds, rows-together}
@@ -30,13 +20,23 @@ use Rattle.sweep_model.specs.Fit.{Fit, vertexCount}
 use Rattle.sweep_model.specs.Normalise.{wasMerged?}
 use Rattle.sweep_model.specs.State.{Problem, Stage, State, bare?, dropped?, functionOf, has?, stageOf, withBook, withMark}
 use Rattle.sweep_model.specs.Sweep.{Verdict, anyDropped?, cause, different, equal, givenBack, undecided}
-use Rattle.sweep_model.specs.declared.Cause.{Cause}
 use Rattle.sweep_model.specs.declared.Cause.the-variants.{Idle, Rows, Size, Steps}
+use Rattle.sweep_model.specs.declared.Cause.{Cause}
 use Rattle.truth.proofs.Booleans.{clash, or-cases}
 use Rattle.truth.proofs.Parts.{alike-sameness}
 use Rattle.truth.proofs.Together.{part-all}
 use Rattle.truth.specs.Parts.{alike?, parts, together}
 use Rattle.truth.specs.Truth.{Truth, constantly}
+use borrow.Author.Tests.{ne-eqb}
+use lib.Dec.{eqb}
+use lib.ListN.{List·getD-eq-default, drop, getD, length, set}
+use lib.Seq.{getD-drop, getD-set-other, getD-set-same}
+use mathlib.Core.Bool.{Bool, _||_, cond, false, or-false, true}
+use mathlib.Core.List.{List, [], _∷_, map}
+use mathlib.Core.Logic.{_↔_, _≢_, _⊎_, inl, inr, ⊎-elim}
+use mathlib.Core.Path.{_∙_, _≡_, ap, refl, sym}
+use native.Mathlib.Decide.{decLt, ℕ-discrete}
+use native.Mathlib.Omega.{arith}
 
 -- What a verdict says of rows and steps: the steps of the ANDs marked 1 or 2; or a limit that was passed.
 pub data Spent (p : Problem) (entry marks : List ℕ) (book : Book) : Verdict → Type 0 where

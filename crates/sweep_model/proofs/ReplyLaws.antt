@@ -1,14 +1,5 @@
 -- The laws of every reply: rows, steps and marks, each by its own name.
-use mathlib.Core.Bool.{Bool, _||_, false, not, true}
-use mathlib.Core.List.{List, map}
-use mathlib.Core.Logic.{_↔_, _≢_}
-use mathlib.Core.Path.{_∙_, _≡_, ap, refl, sym}
 use Prim.Native.Nat.{_+_, _-_, _<_, _≤_, suc, zero, ℕ}
-use native.Mathlib.Decide.{decLt, ℕ-discrete}
-use native.Mathlib.Omega.{arith}
-use lib.ListN.{drop, getD, length}
-use lib.Seq.{getD-drop}
-use borrow.Author.Tests.{eqb-true}
 use Rattle.product_model.proofs.Ran.{Stored}
 use Rattle.product_model.proofs.Store.{holds-rows}
 use Rattle.sweep_model.proofs.Apart.{apart-unlike, apart-varies}
@@ -26,12 +17,21 @@ use Rattle.sweep_model.specs.Fit.{Fit, vertexCount}
 use Rattle.sweep_model.specs.Normalise.{merged?, wasMerged?}
 use Rattle.sweep_model.specs.State.{Problem, State, functionOf, has?, stageOf}
 use Rattle.sweep_model.specs.Sweep.{Verdict, sweep, undecided}
-use Rattle.sweep_model.specs.declared.Cause.{Cause}
 use Rattle.sweep_model.specs.declared.Cause.the-variants.{Rows, Size, Steps}
+use Rattle.sweep_model.specs.declared.Cause.{Cause}
 use Rattle.truth.proofs.Booleans.{clash}
 use Rattle.truth.specs.Distinct.{among}
 use Rattle.truth.specs.Parts.{alike?, parts, size, together}
 use Rattle.truth.specs.Truth.{Truth, constant?, constantly, input}
+use borrow.Author.Tests.{eqb-true}
+use lib.ListN.{drop, getD, length}
+use lib.Seq.{getD-drop}
+use mathlib.Core.Bool.{Bool, _||_, false, not, true}
+use mathlib.Core.List.{List, map}
+use mathlib.Core.Logic.{_↔_, _≢_}
+use mathlib.Core.Path.{_∙_, _≡_, ap, refl, sym}
+use native.Mathlib.Decide.{decLt, ℕ-discrete}
+use native.Mathlib.Omega.{arith}
 
 -- The state that a sweep leaves.
 abbrev pub leftBy : Problem → List ℕ → State

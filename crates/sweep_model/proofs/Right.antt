@@ -1,10 +1,5 @@
 -- Equal and Different are right, and the setting is the first that separates.
-use mathlib.Core.Bool.{false}
-use mathlib.Core.List.{List}
-use mathlib.Core.Logic.{_≢_}
-use mathlib.Core.Path.{_∙_, _≡_, ap, subst, sym}
 use Prim.Native.Nat.{ℕ}
-use lib.ListN.{replicate}
 use Rattle.aig.specs.Literal.{negate}
 use Rattle.sweep_model.proofs.Functions.{function-negate, literal-perfect}
 use Rattle.sweep_model.proofs.Induction.{Endings, endings-keep, sweep-keeps}
@@ -19,6 +14,11 @@ use Rattle.truth.proofs.Equality.{equal-same, invert-across, invert-differs, sa
 use Rattle.truth.proofs.Order.{first-difference, first-inverse}
 use Rattle.truth.specs.Settings.{FirstDifference, firstDifference}
 use Rattle.truth.specs.Truth.{Setting, Truth, invert}
+use lib.ListN.{replicate}
+use mathlib.Core.Bool.{false}
+use mathlib.Core.List.{List}
+use mathlib.Core.Logic.{_≢_}
+use mathlib.Core.Path.{_∙_, _≡_, ap, subst, sym}
 
 -- What a verdict tells of two functions of m inputs.
 pub data Tells (m : ℕ) (f g : Truth) : Verdict → Type 0 where

@@ -1,14 +1,5 @@
 -- Rows of vertices: one row replaced, what a literal became, and that the functions are kept.
-use mathlib.Core.Bool.{Bool, cond, false, not, true}
-use mathlib.Core.List.{List}
-use mathlib.Core.Logic.{_≢_}
-use mathlib.Core.Path.{_∙_, _≡_, ap, refl, sym}
 use Prim.Native.Nat.{_%_, _*_, _+_, _<_, _≤_, ℕ}
-use native.Mathlib.Decide.{decLt, ℕ-discrete}
-use native.Mathlib.Omega.{arith}
-use lib.ListN.{set}
-use lib.Seq.{getD-set-other}
-use borrow.Author.Tests.{eqb-false, eqb-true}
 use Rattle.aig.proofs.IndexLaws.{row-holds, row-length}
 use Rattle.aig.proofs.LiteralLaws.{inverted-negate, negate-negate}
 use Rattle.aig.specs.Literal.{inverted?, negate, onto, vertexOf}
@@ -18,6 +9,15 @@ use Rattle.sweep_model.specs.Fit.{Downward, Sound, WellFormed, vertexCou
 use Rattle.sweep_model.specs.Normalise.{merged?, mergedInto, resolve}
 use Rattle.sweep_model.specs.State.{Problem, functionOf, literalFunction}
 use Rattle.truth.specs.Truth.{Truth, conj, invert}
+use borrow.Author.Tests.{eqb-false, eqb-true}
+use lib.ListN.{set}
+use lib.Seq.{getD-set-other}
+use mathlib.Core.Bool.{Bool, cond, false, not, true}
+use mathlib.Core.List.{List}
+use mathlib.Core.Logic.{_≢_}
+use mathlib.Core.Path.{_∙_, _≡_, ap, refl, sym}
+use native.Mathlib.Decide.{decLt, ℕ-discrete}
+use native.Mathlib.Omega.{arith}
 
 -- A row that is replaced leaves the rows of other vertices.
 pub row-other : (rows : List ℕ) (v x y u : ℕ) → u ≢ v → Holds (withRow rows v x y) u (firstWord rows u) (secondWord rows u)

@@ -1,15 +1,5 @@
 -- Normalising, row by row: it leaves tidy rows, each moved on.
-use mathlib.Core.Bool.{Bool, _&&_, false, true}
-use mathlib.Core.List.{List}
-use mathlib.Core.Logic.{_≢_, _⊎_, ⊎-elim}
-use mathlib.Core.Path.{_∙_, _≡_, ap, refl, subst, sym}
 use Prim.Native.Nat.{_*_, _+_, _-_, _<_, _≤_, suc, zero, ℕ}
-use native.Mathlib.Decide.{decLt, ℕ-discrete}
-use native.Mathlib.Omega.{arith}
-use lib.Dec.{leb}
-use lib.ListN.{length, set}
-use lib.Seq.{set-getD}
-use borrow.Author.Tests.{eqb-true}
 use Rattle.aig.proofs.FirstVertexLaws.{first-nothing, found-at, found-nothing}
 use Rattle.aig.proofs.FoldLaws.{fold-ordered, fold-same, pair-below, pair-operands, pair-unfolded, to-among, to-below}
 use Rattle.aig.proofs.IndexLaws.{row-length}
@@ -18,16 +8,26 @@ use Rattle.aig.specs.Fold.{Unfolded, foldOf}
 use Rattle.aig.specs.Literal.{lit, vertexOf}
 use Rattle.aig.specs.Lookup.{First, Holds, Unused, firstVertex, firstWord, secondWord, withRow}
 use Rattle.aig.specs.Pairs.{SamePair, crossed, straight}
-use Rattle.aig.specs.declared.fold.Folded.{Folded}
 use Rattle.aig.specs.declared.fold.Folded.the-variants.{Pair, To}
+use Rattle.aig.specs.declared.fold.Folded.{Folded}
 use Rattle.aig.specs.declared.literal.Literal.{Literal}
-use Rattle.aig.specs.declared.lookup.Found.{Found}
 use Rattle.aig.specs.declared.lookup.Found.the-variants.{At, Nothing}
+use Rattle.aig.specs.declared.lookup.Found.{Found}
 use Rattle.sweep_model.proofs.Rows.{resolve-agree, resolve-within, row-downward, row-here, row-other}
 use Rattle.sweep_model.proofs.Tidy.{Moves, Tidy, equal-merged, first-unmerged, merged-agree, resolve-kept, resolve-unmerged, tidy-agree, tidy-less, unequal-stays, unequal-unmerged}
 use Rattle.sweep_model.specs.Fit.{Downward}
 use Rattle.sweep_model.specs.Normalise.{foldedRow, foundRow, merged?, mergedInto, normaliseFrom, normaliseRow, resolve, wasMerged?}
 use Rattle.truth.proofs.Booleans.{clash}
+use borrow.Author.Tests.{eqb-true}
+use lib.Dec.{leb}
+use lib.ListN.{length, set}
+use lib.Seq.{set-getD}
+use mathlib.Core.Bool.{Bool, _&&_, false, true}
+use mathlib.Core.List.{List}
+use mathlib.Core.Logic.{_≢_, _⊎_, ⊎-elim}
+use mathlib.Core.Path.{_∙_, _≡_, ap, refl, subst, sym}
+use native.Mathlib.Decide.{decLt, ℕ-discrete}
+use native.Mathlib.Omega.{arith}
 
 -- The words x and y that normalising gives vertex v: it was merged, or keeps what its operands became.
 data Settled (rows : List ℕ) (v x y : ℕ) : Type 0 where

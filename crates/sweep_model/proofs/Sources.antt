@@ -1,13 +1,5 @@
 -- Where diagrams come from: a vertex other than the constant has one exactly where it, or one merged into it, is marked 1.
-use mathlib.Core.Bool.{false, true}
-use mathlib.Core.List.{List}
-use mathlib.Core.Logic.{_⊎_, _≢_, inl, inr, ⊎-elim}
-use mathlib.Core.Path.{_∙_, _≡_, ap, refl, sym}
 use Prim.Native.Nat.{_*_, _-_, _<_, _≤_, ℕ}
-use native.Mathlib.Decide.{ℕ-discrete}
-use native.Mathlib.Omega.{arith}
-use lib.ListN.{getD, length, set}
-use lib.Seq.{getD-set-other, getD-set-same}
 use Rattle.aig.specs.Literal.{vertexOf}
 use Rattle.product_model.specs.Run.{Book}
 use Rattle.sweep_model.proofs.Accounts.{zeros}
@@ -25,6 +17,14 @@ use Rattle.sweep_model.specs.Normalise.{normalise, resolve, wasMerged?}
 use Rattle.sweep_model.specs.State.{Problem, Stage, State, dropped, gone, gone?, has?, opened, stageOf, waiting, waits?, withBook}
 use Rattle.sweep_model.specs.Sweep.{at, begin, drop, givenBack, swept}
 use Rattle.truth.proofs.Booleans.{bool-cases, clash, or-cases, or-left}
+use lib.ListN.{getD, length, set}
+use lib.Seq.{getD-set-other, getD-set-same}
+use mathlib.Core.Bool.{false, true}
+use mathlib.Core.List.{List}
+use mathlib.Core.Logic.{_⊎_, _≢_, inl, inr, ⊎-elim}
+use mathlib.Core.Path.{_∙_, _≡_, ap, refl, sym}
+use native.Mathlib.Decide.{ℕ-discrete}
+use native.Mathlib.Omega.{arith}
 
 -- The mark of a vertex.
 abbrev pub markAt : List ℕ → ℕ → ℕ

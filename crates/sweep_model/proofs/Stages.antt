@@ -1,16 +1,16 @@
 -- Stages of vertices, and a stage stored in a list of them.
+use Prim.Native.Nat.{_<_, _≤_, suc, zero, ℕ}
+use Rattle.sweep_model.specs.Normalise.{wake, wakeAt}
+use Rattle.sweep_model.specs.State.{Stage, again, bare, bare?, dropped, dropped?, gone, gone?, has?, open?, opened, stageOf, waiting, waits?}
+use Rattle.truth.proofs.Booleans.{clash, not-true}
+use lib.ListN.{List·getD-eq-default, length, length-set}
+use lib.Seq.{getD-set-other, getD-set-same}
 use mathlib.Core.Bool.{false, true}
 use mathlib.Core.List.{List}
 use mathlib.Core.Logic.{_⊎_, _≢_, inl, inr}
 use mathlib.Core.Path.{_∙_, _≡_, ap, refl, sym}
-use Prim.Native.Nat.{_<_, _≤_, suc, zero, ℕ}
 use native.Mathlib.Decide.{decLt}
 use native.Mathlib.Omega.{arith}
-use lib.ListN.{List·getD-eq-default, length, length-set}
-use lib.Seq.{getD-set-other, getD-set-same}
-use Rattle.sweep_model.specs.Normalise.{wake, wakeAt}
-use Rattle.sweep_model.specs.State.{Stage, again, bare, bare?, dropped, dropped?, gone, gone?, has?, open?, opened, stageOf, waiting, waits?}
-use Rattle.truth.proofs.Booleans.{clash, not-true}
 
 -- Only a merged vertex passes the test of one.
 pub gone-is : (x : Stage) → gone? x ≡ true → x ≡ gone

@@ -1,14 +1,5 @@
 -- No vertex starves: below the scan's place every bare AND has an operand that is not at rest.
-use mathlib.Core.Bool.{Bool, _&&_, false, true}
-use mathlib.Core.List.{List}
-use mathlib.Core.Logic.{_≢_, inl, inr, ⊎-elim}
-use mathlib.Core.Path.{_∙_, _≡_, ap, ap₂, refl, sym}
 use Prim.Native.Nat.{_-_, _<_, _≤_, suc, ℕ}
-use native.Mathlib.Decide.{decLt, ℕ-discrete}
-use native.Mathlib.Omega.{arith}
-use lib.ListN.{length, set}
-use lib.Seq.{getD-set-other, getD-set-same}
-use borrow.Author.Tests.{le-leb}
 use Rattle.aig.specs.Fold.{Unfolded}
 use Rattle.aig.specs.Literal.{vertexOf}
 use Rattle.aig.specs.Lookup.{firstWord, secondWord}
@@ -26,6 +17,15 @@ use Rattle.sweep_model.specs.Normalise.{merged?, resolve, wake, wasMerge
 use Rattle.sweep_model.specs.State.{Problem, Stage, State, bare?, gone, gone?, has?, open?, opened, stageOf, waiting, waits?, withBook}
 use Rattle.sweep_model.specs.Sweep.{at, meet, ready?}
 use Rattle.truth.proofs.Booleans.{bool-cases, clash, not-true, or-right}
+use borrow.Author.Tests.{le-leb}
+use lib.ListN.{length, set}
+use lib.Seq.{getD-set-other, getD-set-same}
+use mathlib.Core.Bool.{Bool, _&&_, false, true}
+use mathlib.Core.List.{List}
+use mathlib.Core.Logic.{_≢_, inl, inr, ⊎-elim}
+use mathlib.Core.Path.{_∙_, _≡_, ap, ap₂, refl, sym}
+use native.Mathlib.Decide.{decLt, ℕ-discrete}
+use native.Mathlib.Omega.{arith}
 
 -- Vertex v has an operand that is not at rest: open and not waiting.
 pub data Delayed (rows : List ℕ) (stages : List Stage) (v : ℕ) : Type 0 where

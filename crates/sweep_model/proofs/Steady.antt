@@ -1,13 +1,5 @@
 -- What holds of every state that the sweep reaches, and what the steps that merge nothing keep of it.
-use mathlib.Core.Bool.{Bool, _&&_, _||_, false, true}
-use mathlib.Core.List.{List}
-use mathlib.Core.Logic.{_≢_}
-use mathlib.Core.Path.{_∙_, _≡_, ap, ap₂, refl, sym}
 use Prim.Native.Nat.{_-_, _<_, _≤_, suc, ℕ}
-use native.Mathlib.Decide.{ℕ-discrete}
-use native.Mathlib.Omega.{arith}
-use lib.ListN.{getD-replicate, length, length-replicate, length-set, replicate, set}
-use lib.Seq.{getD-set-other, getD-set-same}
 use Rattle.aig.specs.Literal.{negate, vertexOf}
 use Rattle.aig.specs.Lookup.{firstWord, secondWord}
 use Rattle.product_model.specs.Run.{Book, Outcome, addPart, run}
@@ -22,6 +14,14 @@ use Rattle.sweep_model.specs.Normalise.{normalise, normaliseFrom, resolv
 use Rattle.sweep_model.specs.State.{Problem, Stage, State, bare, bare?, dropped, functionOf, gone, gone?, has?, literalFunction, open?, opened, stageOf, waiting, waits?, withBook, withMark, withStages}
 use Rattle.sweep_model.specs.Sweep.{begin, drop, swept, topPart, turnsLeft, turnsOf}
 use Rattle.truth.proofs.Booleans.{clash}
+use lib.ListN.{getD-replicate, length, length-replicate, length-set, replicate, set}
+use lib.Seq.{getD-set-other, getD-set-same}
+use mathlib.Core.Bool.{Bool, _&&_, _||_, false, true}
+use mathlib.Core.List.{List}
+use mathlib.Core.Logic.{_≢_}
+use mathlib.Core.Path.{_∙_, _≡_, ap, ap₂, refl, sym}
+use native.Mathlib.Decide.{ℕ-discrete}
+use native.Mathlib.Omega.{arith}
 
 -- The rows are sound and tidy and have moved on from the entry rows; the stages of the merged vertices say so; there is a mark a vertex.
 pub record Steady (p : Problem) (entry : List ℕ) (s : State) : Type 0 where

@@ -1,13 +1,5 @@
 -- What newly merged vertices hand over, vertex by vertex.
-use mathlib.Core.Bool.{Bool, _&&_, _||_, cond, false, not, true}
-use mathlib.Core.List.{List}
-use mathlib.Core.Logic.{_⊎_, _≢_, inl, inr}
-use mathlib.Core.Path.{_∙_, _≡_, ap, ap₂, refl, subst, sym}
 use Prim.Native.Nat.{_+_, _-_, _<_, _≤_, suc, zero, ℕ}
-use native.Mathlib.Decide.{ℕ-discrete}
-use native.Mathlib.Omega.{arith}
-use lib.ListN.{length, length-set, set}
-use lib.Seq.{getD-set-other, getD-set-same}
 use Rattle.aig.specs.Literal.{vertexOf}
 use Rattle.aig.specs.Lookup.{firstWord}
 use Rattle.sweep_model.proofs.Stages.{bare-wake, gone-is, gone-wake, has-wake, open-wake, stage-within, wake-wake, woken-constant, woken-length, woken-other, woken-same}
@@ -16,6 +8,14 @@ use Rattle.sweep_model.specs.Fit.{Downward}
 use Rattle.sweep_model.specs.Normalise.{merged?, takeAt, takesFrom, wake, wakeAt, wasMerged?}
 use Rattle.sweep_model.specs.State.{Stage, bare?, gone, gone?, has?, open?, opened, stageOf}
 use Rattle.truth.proofs.Booleans.{clash}
+use lib.ListN.{length, length-set, set}
+use lib.Seq.{getD-set-other, getD-set-same}
+use mathlib.Core.Bool.{Bool, _&&_, _||_, cond, false, not, true}
+use mathlib.Core.List.{List}
+use mathlib.Core.Logic.{_⊎_, _≢_, inl, inr}
+use mathlib.Core.Path.{_∙_, _≡_, ap, ap₂, refl, subst, sym}
+use native.Mathlib.Decide.{ℕ-discrete}
+use native.Mathlib.Omega.{arith}
 
 -- The vertex of the first word of a row: what a merged vertex was merged into.
 abbrev pub target : List ℕ → ℕ → ℕ

@@ -1,14 +1,5 @@
 -- Tidy rows, and rows that moved on.
-use mathlib.Core.Bool.{Bool, _&&_, and-false, false, true}
-use mathlib.Core.List.{List}
-use mathlib.Core.Logic.{_≢_}
-use mathlib.Core.Path.{_∙_, _≡_, ap, ap₂, refl, sym}
 use Prim.Native.Nat.{_*_, _<_, _≤_, ℕ}
-use native.Mathlib.Decide.{decLt}
-use native.Mathlib.Omega.{arith}
-use lib.Dec.{eqb, leb}
-use lib.ListN.{length}
-use borrow.Author.Tests.{eq-eqb, le-leb, leb-true, lt-leb, ne-eqb}
 use Rattle.aig.proofs.PairsLaws.{pair-map, pair-then}
 use Rattle.aig.specs.Fold.{Unfolded}
 use Rattle.aig.specs.Literal.{onto, vertexOf}
@@ -18,6 +9,15 @@ use Rattle.sweep_model.proofs.Rows.{onto-vertex, resolve-cases, resolve
 use Rattle.sweep_model.specs.Fit.{Downward}
 use Rattle.sweep_model.specs.Normalise.{merged?, resolve, wasMerged?}
 use Rattle.truth.proofs.Booleans.{and-left, and-right, clash, not-true}
+use borrow.Author.Tests.{eq-eqb, le-leb, leb-true, lt-leb, ne-eqb}
+use lib.Dec.{eqb, leb}
+use lib.ListN.{length}
+use mathlib.Core.Bool.{Bool, _&&_, and-false, false, true}
+use mathlib.Core.List.{List}
+use mathlib.Core.Logic.{_≢_}
+use mathlib.Core.Path.{_∙_, _≡_, ap, ap₂, refl, sym}
+use native.Mathlib.Decide.{decLt}
+use native.Mathlib.Omega.{arith}
 
 -- A vertex with equal words passes for merged.
 pub equal-merged : (rows : List ℕ) (v : ℕ) → firstWord rows v ≡ secondWord rows v → merged? rows v ≡ true

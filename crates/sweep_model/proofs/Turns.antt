@@ -1,10 +1,5 @@
 -- The turns left: taking over adds none, and while a vertex waits there are some.
-use mathlib.Core.Bool.{Bool, _&&_, cond, false, not, true}
-use mathlib.Core.List.{List, [], _∷_}
-use mathlib.Core.Path.{_∙_, _≡_, ap, refl}
 use Prim.Native.Nat.{_+_, _<_, _≤_, suc, zero, ℕ}
-use native.Mathlib.Omega.{arith}
-use lib.ListN.{length, set}
 use Rattle.sweep_model.proofs.Stages.{stage-within, woken-other}
 use Rattle.sweep_model.proofs.Takes.{Alive, either?, taken, taken-alive, target}
 use Rattle.sweep_model.proofs.Tidy.{Tidy}
@@ -13,6 +8,11 @@ use Rattle.sweep_model.specs.Normalise.{merged?, takeAt, takesFrom, wake
 use Rattle.sweep_model.specs.State.{Stage, again, bare, dropped, gone, gone?, opened, stageOf, waiting, waits?}
 use Rattle.sweep_model.specs.Sweep.{turnsLeft, turnsOf}
 use Rattle.truth.proofs.Booleans.{clash}
+use lib.ListN.{length, set}
+use mathlib.Core.Bool.{Bool, _&&_, cond, false, not, true}
+use mathlib.Core.List.{List, [], _∷_}
+use mathlib.Core.Path.{_∙_, _≡_, ap, refl}
+use native.Mathlib.Omega.{arith}
 
 -- A stage stored puts its own turns in place of those that were there.
 pub turns-set : (stages : List Stage) (i : ℕ) (x : Stage) → i < length stages → turnsLeft (set stages i x) + turnsOf (stageOf stages i) ≡ turnsLeft stages + turnsOf x

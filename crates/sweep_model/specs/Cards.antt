@@ -1,15 +1,15 @@
 -- Bench cards on replies, of the sweep alone: tables of at most two inputs.
-use mathlib.Core.Bool.{false, true}
-use mathlib.Core.List.{List, [], _++_, _∷_}
-use mathlib.Core.Path.{_≡_}
 use Prim.Native.Nat.{suc, zero, ℕ}
-use lib.ListN.{drop, getD, length}
 use Rattle.aig.specs.Lookup.{firstWord, ownWords, secondWord}
 use Rattle.aig.specs.Values.{literalValue}
 use Rattle.sweep_model.specs.State.{Limits, Problem}
 use Rattle.sweep_model.specs.Sweep.{Answer, Verdict, different, equal, sweep, undecided}
 use Rattle.sweep_model.specs.declared.Cause.the-variants.{Rows, Size, Steps}
 use Rattle.truth.specs.Truth.{Truth, conj, constantly, input, invert}
+use lib.ListN.{drop, getD, length}
+use mathlib.Core.Bool.{false, true}
+use mathlib.Core.List.{List, [], _++_, _∷_}
+use mathlib.Core.Path.{_≡_}
 
 -- The functions of n made vertices after others, by their rows.
 unfoldable pub madeFunctions : ℕ → List Truth → ℕ → List ℕ → List Truth

@@ -1,11 +1,5 @@
 -- What the paper says of a reply: marks, rows, steps, and the conditions after each.
-use mathlib.Core.Bool.{Bool, _||_, cond, false}
-use mathlib.Core.List.{List, [], _∷_, map}
-use mathlib.Core.Logic.{_⊎_, _≢_}
-use mathlib.Core.Path.{_≡_}
 use Prim.Native.Nat.{_+_, _-_, _<_, _≤_, suc, zero, ℕ}
-use lib.Dec.{eqb}
-use lib.ListN.{drop, getD, length}
 use Rattle.aig.specs.Literal.{vertexOf}
 use Rattle.aig.specs.Lookup.{firstWord, secondWord}
 use Rattle.sweep_model.specs.State.{Problem, functionOf, literalFunction}
@@ -14,6 +8,12 @@ use Rattle.sweep_model.specs.declared.Cause.the-variants.{Rows, Steps}
 use Rattle.truth.specs.Parts.{alike?, together}
 use Rattle.truth.specs.Steps.{steps}
 use Rattle.truth.specs.Truth.{Truth, conj, constant?}
+use lib.Dec.{eqb}
+use lib.ListN.{drop, getD, length}
+use mathlib.Core.Bool.{Bool, _||_, cond, false}
+use mathlib.Core.List.{List, [], _∷_, map}
+use mathlib.Core.Logic.{_⊎_, _≢_}
+use mathlib.Core.Path.{_≡_}
 
 -- An AND: the functions of its two operands. Its function and its product steps.
 abbrev pub And : Type 0

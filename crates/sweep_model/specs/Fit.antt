@@ -1,12 +1,12 @@
 -- What a problem and the rows of its vertices must satisfy.
-use mathlib.Core.Bool.{false}
-use mathlib.Core.List.{List}
-use mathlib.Core.Path.{_≡_}
 use Prim.Native.Nat.{_*_, _<_, _≤_, suc, ℕ}
-use lib.ListN.{length}
 use Rattle.aig.specs.Lookup.{Holds, firstWord, secondWord}
 use Rattle.sweep_model.specs.State.{Problem, functionOf, literalFunction}
 use Rattle.truth.specs.Truth.{Perfect, conj, constantly, input}
+use lib.ListN.{length}
+use mathlib.Core.Bool.{false}
+use mathlib.Core.List.{List}
+use mathlib.Core.Path.{_≡_}
 
 -- How many vertices there are.
 abbrev pub vertexCount : Problem → ℕ

@@ -1,17 +1,17 @@
 -- Step 1: normalising, and what a merged vertex hands over.
-use mathlib.Core.Bool.{Bool, _&&_, _||_, cond, not}
-use mathlib.Core.List.{List}
 use Prim.Native.Nat.{_*_, _-_, suc, zero, ℕ}
-use lib.Dec.{eqb, leb}
-use lib.ListN.{length, set}
 use Rattle.aig.specs.Fold.{foldOf}
 use Rattle.aig.specs.Literal.{onto, vertexOf}
 use Rattle.aig.specs.Lookup.{firstVertex, firstWord, secondWord, withRow}
-use Rattle.aig.specs.declared.fold.Folded.{Folded}
 use Rattle.aig.specs.declared.fold.Folded.the-variants.{Pair, To}
-use Rattle.aig.specs.declared.lookup.Found.{Found}
+use Rattle.aig.specs.declared.fold.Folded.{Folded}
 use Rattle.aig.specs.declared.lookup.Found.the-variants.{At, Nothing}
+use Rattle.aig.specs.declared.lookup.Found.{Found}
 use Rattle.sweep_model.specs.State.{Stage, State, again, bare, dropped, gone, gone?, has?, opened, stageOf, waiting}
+use lib.Dec.{eqb, leb}
+use lib.ListN.{length, set}
+use mathlib.Core.Bool.{Bool, _&&_, _||_, cond, not}
+use mathlib.Core.List.{List}
 
 -- "A vertex merged into reference r has the row (r, r)."
 abbrev pub merged? : List ℕ → ℕ → Bool

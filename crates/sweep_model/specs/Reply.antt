@@ -1,10 +1,10 @@
 -- Replies and their values.
-use lib.ListN.{length}
 use Rattle.sweep_model.specs.State.{State}
 use Rattle.sweep_model.specs.Sweep.{Answer, Verdict, different, equal, undecided}
 use Rattle.sweep_model.specs.declared.Counts.{Counts}
-use Rattle.sweep_model.specs.declared.Reply.{Reply}
 use Rattle.sweep_model.specs.declared.Reply.the-variants.{Different, Equal, Undecided}
+use Rattle.sweep_model.specs.declared.Reply.{Reply}
+use lib.ListN.{length}
 
 -- "All carry rows and steps."
 abbrev pub countsOf : State → Counts

@@ -1,11 +1,11 @@
 -- What the sweep works on: a problem, and a state that its steps change.
-use mathlib.Core.Bool.{Bool, false, true}
-use mathlib.Core.List.{List}
 use Prim.Native.Nat.{ℕ}
-use lib.ListN.{getD, set}
 use Rattle.aig.specs.Values.{literalValue}
 use Rattle.product_model.specs.Run.{Book}
 use Rattle.truth.specs.Truth.{Truth, conj, constantly, invert}
+use lib.ListN.{getD, set}
+use mathlib.Core.Bool.{Bool, false, true}
+use mathlib.Core.List.{List}
 
 -- "The size or row limit .. or the step limit"
 pub record Limits : Type 0 where

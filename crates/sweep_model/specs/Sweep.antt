@@ -1,19 +1,19 @@
 -- Steps 2 to 6: the sweep.
-use mathlib.Core.Bool.{Bool, _&&_, _||_, cond, false, not, true}
-use mathlib.Core.List.{List, [], _∷_}
 use Prim.Native.Nat.{_+_, _-_, max, min, suc, zero, ℕ}
-use lib.Dec.{eqb, leb, ltb}
-use lib.ListN.{length, replicate, set}
 use Rattle.aig.specs.Literal.{literalOf, negate, vertexOf}
 use Rattle.aig.specs.Lookup.{firstWord, secondWord}
 use Rattle.product_model.specs.Run.{Book, Outcome, addPart, done, run, shortOfRows, shortOfSteps}
 use Rattle.sweep_model.specs.Normalise.{mergedInto, normalise, resolve}
 use Rattle.sweep_model.specs.State.{Problem, Stage, State, again, bare, bare?, dropped, dropped?, functionOf, gone, has?, literalFunction, open?, opened, stageOf, waiting, waits?, withBook, withMark, withRows, withStages}
-use Rattle.sweep_model.specs.declared.Cause.{Cause}
 use Rattle.sweep_model.specs.declared.Cause.the-variants.{Idle, Rows, Size, Steps}
+use Rattle.sweep_model.specs.declared.Cause.{Cause}
 use Rattle.truth.specs.Parts.{alike?, size}
 use Rattle.truth.specs.Settings.{firstDifference}
 use Rattle.truth.specs.Truth.{Setting, Truth, leaf, node, same?}
+use lib.Dec.{eqb, leb, ltb}
+use lib.ListN.{length, replicate, set}
+use mathlib.Core.Bool.{Bool, _&&_, _||_, cond, false, not, true}
+use mathlib.Core.List.{List, [], _∷_}
 
 -- "Replies: Equal; Different; Undecided", the second with its setting.
 pub data Verdict : Type 0 where

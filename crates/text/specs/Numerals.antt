@@ -1,7 +1,7 @@
 -- Decimal numerals read.
 use Prim.Native.Nat.{ℕ, _+_, _*_, _-_}
-use Rattle.text.specs.declared.numerals.Numeral.{Numeral}
 use Rattle.text.specs.declared.numerals.Numeral.the-variants.{Value, Malformed}
+use Rattle.text.specs.declared.numerals.Numeral.{Numeral}
 use lib.Dec.{eqb, leb, ltb}
 use lib.ListN.{length, getD}
 use mathlib.Core.Bool.{Bool, true, cond, not, _&&_}

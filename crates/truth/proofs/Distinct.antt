@@ -1,13 +1,13 @@
 -- Laws of members and distinct members under a test of sameness.
+use Prim.Native.Nat.{_+_, _≤_, suc}
+use Rattle.truth.proofs.Booleans.{and-left, and-right, clash, not-true, or-cases, or-left, or-right}
+use Rattle.truth.specs.Distinct.{Sameness, among, apart, distinct, filter}
+use lib.ListN.{length}
 use mathlib.Core.Bool.{Bool, _||_, cond, false, not, or-assoc, true}
 use mathlib.Core.List.{List, [], _++_, _∷_}
 use mathlib.Core.Logic.{⊎-elim}
 use mathlib.Core.Path.{_≡_, ap, ap₂, refl, sym, _∙_}
-use Prim.Native.Nat.{_+_, _≤_, suc}
 use native.Mathlib.Omega.{arith}
-use lib.ListN.{length}
-use Rattle.truth.proofs.Booleans.{and-left, and-right, clash, not-true, or-cases, or-left, or-right}
-use Rattle.truth.specs.Distinct.{Sameness, among, apart, distinct, filter}
 
 -- The members of two lists after one another that pass a test.
 pub filter-append : {A : Type 0} (p : A → Bool) (xs ys : List A) → filter p (xs ++ ys) ≡ filter p xs ++ filter p ys

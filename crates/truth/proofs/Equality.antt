@@ -1,14 +1,14 @@
 -- Functions of one depth are equal where they agree on all settings; the test decides equality; inverse functions.
-use mathlib.Core.Bool.{Bool, Bool·not-not, false, not, true}
-use mathlib.Core.List.{[], _∷_}
-use mathlib.Core.Logic.{_⊎_, inl, inr, ⊎-elim}
-use mathlib.Core.Path.{_≡_, ap, ap₂, refl, sym, _∙_}
 use Prim.Native.Nat.{suc, zero, ℕ}
-use lib.ListN.{length}
 use Rattle.truth.proofs.Booleans.{and-left, and-right, beq-equal, beq-reflexive, clash, iff-equal, or-cases, or-left, or-right}
 use Rattle.truth.proofs.Values.{value-invert}
 use Rattle.truth.specs.Parts.{alike?}
 use Rattle.truth.specs.Truth.{Perfect, Setting, Truth, constant?, constantly, halves, invert, leaf, node, same?, valueAt, whole}
+use lib.ListN.{length}
+use mathlib.Core.Bool.{Bool, Bool·not-not, false, not, true}
+use mathlib.Core.List.{[], _∷_}
+use mathlib.Core.Logic.{_⊎_, inl, inr, ⊎-elim}
+use mathlib.Core.Path.{_≡_, ap, ap₂, refl, sym, _∙_}
 
 -- Two functions of m inputs that agree on every setting are equal.
 pub agree-equal : {m : ℕ} {f g : Truth} → Perfect m f → Perfect m g

@@ -1,17 +1,17 @@
 -- Counting order, and the first setting on which two functions differ.
-use mathlib.Core.Bool.{Bool, cond, false, true}
-use mathlib.Core.List.{[], _∷_}
-use mathlib.Core.Logic.{_≢_}
-use mathlib.Core.Path.{_≡_, ap, ap₂, refl, sym}
 use Prim.Native.Nat.{_+_, _<_, _^_, suc, ℕ}
-use native.Mathlib.Decide.{decLt}
-use native.Mathlib.Nat.{two-pow-succ, zero-add}
-use native.Mathlib.Omega.{arith}
-use lib.ListN.{length, replicate}
 use Rattle.truth.proofs.Booleans.{clash, not-true}
 use Rattle.truth.proofs.Equality.{equal-same, invert-differs, same-equal}
 use Rattle.truth.specs.Settings.{FirstDifference, firstDifference, numberOf}
 use Rattle.truth.specs.Truth.{Perfect, Setting, Truth, halves, invert, leaf, node, same?, valueAt, whole}
+use lib.ListN.{length, replicate}
+use mathlib.Core.Bool.{Bool, cond, false, true}
+use mathlib.Core.List.{[], _∷_}
+use mathlib.Core.Logic.{_≢_}
+use mathlib.Core.Path.{_≡_, ap, ap₂, refl, sym}
+use native.Mathlib.Decide.{decLt}
+use native.Mathlib.Nat.{two-pow-succ, zero-add}
+use native.Mathlib.Omega.{arith}
 
 -- The number of a setting whose leading digit is 1, and of one whose leading digit is 0.
 pub number-one : (s : Setting) → numberOf (true ∷ s) ≡ 2 ^ length s + numberOf s

@@ -1,11 +1,5 @@
 -- Laws of parts, sizes and parts of several functions together.
-use mathlib.Core.Bool.{Bool, _&&_, _||_, cond, false, not, or-self, true}
-use mathlib.Core.List.{[], _++_, _∷_}
-use mathlib.Core.Logic.{⊎-elim}
-use mathlib.Core.Path.{_≡_, ap, ap₂, refl, sym, _∙_}
 use Prim.Native.Nat.{_<_, suc, zero, ℕ}
-use native.Mathlib.Omega.{arith}
-use lib.ListN.{length}
 use Rattle.truth.proofs.Booleans.{and-left, and-right, clash, iff-equal, not-true, or-cases, or-left, or-right}
 use Rattle.truth.proofs.Distinct.{among-append, distinct-same, filter-append}
 use Rattle.truth.proofs.Equality.{alike-cases, equal-alike, inverse-alike, invert-across, invert-twice, same-invert, same-reflexive}
@@ -13,6 +7,12 @@ use Rattle.truth.proofs.Values.{perfect-invert}
 use Rattle.truth.specs.Distinct.{Sameness, among, distinct, filter}
 use Rattle.truth.specs.Parts.{alike?, cofactors, depends?, parts, size}
 use Rattle.truth.specs.Truth.{Perfect, Truth, constantly, halves, input, invert, leaf, node, same?, whole}
+use lib.ListN.{length}
+use mathlib.Core.Bool.{Bool, _&&_, _||_, cond, false, not, or-self, true}
+use mathlib.Core.List.{[], _++_, _∷_}
+use mathlib.Core.Logic.{⊎-elim}
+use mathlib.Core.Path.{_≡_, ap, ap₂, refl, sym, _∙_}
+use native.Mathlib.Omega.{arith}
 
 -- Being equal or inverse is a sameness.
 pub alike-sameness : Sameness alike?

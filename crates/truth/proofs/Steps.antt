@@ -1,16 +1,16 @@
 -- Laws of product steps.
-use mathlib.Core.Bool.{Bool, _&&_, _||_, and-self, cond, false, not, or-comm, true}
-use mathlib.Core.List.{[], _++_, _∷_}
-use mathlib.Core.Path.{_≡_, ap, ap₂, refl, sym, _∙_}
 use Prim.Native.Nat.{_+_, _-_, _^_, _≤_, suc, zero, ℕ}
-use native.Mathlib.Omega.{arith}
-use lib.ListN.{length, length-append}
-use lib.Pow.{pow-pos}
 use Rattle.truth.proofs.Equality.{same-invert, same-reflexive}
 use Rattle.truth.proofs.Parts.{alike-invert, alike-sameness}
 use Rattle.truth.specs.Parts.{alike?, depends?}
 use Rattle.truth.specs.Steps.{calls, steps, terminal?}
 use Rattle.truth.specs.Truth.{Perfect, Setting, Truth, constant?, halves, invert, leaf, node, same?, valueAt, whole}
+use lib.ListN.{length, length-append}
+use lib.Pow.{pow-pos}
+use mathlib.Core.Bool.{Bool, _&&_, _||_, and-self, cond, false, not, or-comm, true}
+use mathlib.Core.List.{[], _++_, _∷_}
+use mathlib.Core.Path.{_≡_, ap, ap₂, refl, sym, _∙_}
+use native.Mathlib.Omega.{arith}
 
 -- A product on a pair that ends takes one step.
 pub steps-terminal : (f g : Truth) → terminal? f g ≡ true → steps f g ≡ 1

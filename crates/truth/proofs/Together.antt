@@ -1,17 +1,17 @@
 -- Laws of the parts of several functions together.
-use mathlib.Core.Bool.{true}
-use mathlib.Core.List.{List, [], _++_, _∷_, append-assoc, append-nil}
-use mathlib.Core.Logic.{⊎-elim}
-use mathlib.Core.Path.{_≡_, ap, refl, sym, _∙_}
 use Prim.Native.Nat.{_+_, _≤_}
-use native.Mathlib.Omega.{arith}
-use lib.ListN.{length}
 use Rattle.truth.proofs.Booleans.{clash, or-cases, or-left, or-right}
 use Rattle.truth.proofs.Distinct.{Within, among-append, distinct-append, distinct-within}
 use Rattle.truth.proofs.Parts.{alike-sameness, parts-alike}
 use Rattle.truth.specs.Distinct.{among, distinct, filter}
 use Rattle.truth.specs.Parts.{alike?, allParts, parts, size, together}
 use Rattle.truth.specs.Truth.{Truth}
+use lib.ListN.{length}
+use mathlib.Core.Bool.{true}
+use mathlib.Core.List.{List, [], _++_, _∷_, append-assoc, append-nil}
+use mathlib.Core.Logic.{⊎-elim}
+use mathlib.Core.Path.{_≡_, ap, refl, sym, _∙_}
+use native.Mathlib.Omega.{arith}
 
 -- The parts of lists of functions after one another.
 pub allParts-append : (fs gs : List Truth) → allParts (fs ++ gs) ≡ allParts fs ++ allParts gs

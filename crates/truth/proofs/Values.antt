@@ -1,12 +1,12 @@
 -- The values of constants, inputs, inversion, conjunction, or and exclusive or on every setting; their depths.
+use Prim.Native.Nat.{suc, zero, ℕ}
+use Rattle.truth.proofs.Booleans.{cond-same}
+use Rattle.truth.specs.Truth.{Perfect, Setting, Truth, conj, constantly, disj, exclusive, halves, input, invert, leaf, node, valueAt, whole}
+use lib.ListN.{getD, length}
 use mathlib.Core.Bool.{Bool, Bool·not-not, _&&_, _||_, cond, false, not, true, xor}
 use mathlib.Core.List.{[], _∷_}
 use mathlib.Core.Path.{_≡_, ap₂, refl, _∙_}
-use Prim.Native.Nat.{suc, zero, ℕ}
 use native.Mathlib.Omega.{arith}
-use lib.ListN.{getD, length}
-use Rattle.truth.proofs.Booleans.{cond-same}
-use Rattle.truth.specs.Truth.{Perfect, Setting, Truth, conj, constantly, disj, exclusive, halves, input, invert, leaf, node, valueAt, whole}
 
 -- An inverted function has the inverted value.
 pub value-invert : (f : Truth) (s : Setting) → valueAt (invert f) s ≡ not (valueAt f s)

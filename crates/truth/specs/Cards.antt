@@ -1,10 +1,10 @@
 -- The bench cards on parts and steps, marked P. "a is reference 2, b is 4": inputs 1 and 2, of two.
-use mathlib.Core.Bool.{Bool, false}
-use mathlib.Core.List.{[], _∷_}
-use mathlib.Core.Path.{_≡_}
 use Rattle.truth.specs.Parts.{size, together}
 use Rattle.truth.specs.Steps.{steps}
 use Rattle.truth.specs.Truth.{Truth, conj, constantly, exclusive, input, invert}
+use mathlib.Core.Bool.{Bool, false}
+use mathlib.Core.List.{[], _∷_}
+use mathlib.Core.Path.{_≡_}
 
 abbrev pub a : Truth
 a = input 2 1

@@ -1,10 +1,10 @@
 -- Parts of functions. A part is the function of a row of a reduced decision diagram.
-use mathlib.Core.Bool.{Bool, _||_, cond, false, not}
-use mathlib.Core.List.{List, [], _++_, _∷_}
 use Prim.Native.Nat.{ℕ}
-use lib.ListN.{length}
 use Rattle.truth.specs.Distinct.{distinct, filter}
 use Rattle.truth.specs.Truth.{Truth, invert, leaf, node, same?, valueAt}
+use lib.ListN.{length}
+use mathlib.Core.Bool.{Bool, _||_, cond, false, not}
+use mathlib.Core.List.{List, [], _++_, _∷_}
 
 -- "Fix inputs 1 to k-1 of a function to some values.": what is left, for every k and all values (the cofactors).
 unfoldable pub cofactors : Truth → List Truth

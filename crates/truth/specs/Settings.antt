@@ -1,11 +1,11 @@
 -- Counting order, and the first setting on which two functions differ.
+use Prim.Native.Nat.{_+_, _<_, _^_, ℕ}
+use Rattle.truth.specs.Truth.{Setting, Truth, leaf, node, same?, valueAt}
+use lib.ListN.{length}
 use mathlib.Core.Bool.{cond, false, true}
 use mathlib.Core.List.{[], _∷_}
 use mathlib.Core.Logic.{_≢_}
 use mathlib.Core.Path.{_≡_}
-use Prim.Native.Nat.{_+_, _<_, _^_, ℕ}
-use lib.ListN.{length}
-use Rattle.truth.specs.Truth.{Setting, Truth, leaf, node, same?, valueAt}
 
 -- "Counting order: input 1 is the leading digit, 0 before 1": the number whose binary digits the setting holds.
 unfoldable pub numberOf : Setting → ℕ

@@ -1,10 +1,10 @@
 -- Product steps: the calls of the recursive AND of two decision diagrams.
-use mathlib.Core.Bool.{Bool, _||_, cond}
-use mathlib.Core.List.{List, [], _++_, _∷_}
 use Prim.Native.Nat.{ℕ}
-use lib.ListN.{length}
 use Rattle.truth.specs.Parts.{alike?, depends?}
 use Rattle.truth.specs.Truth.{Truth, constant?, leaf, node}
+use lib.ListN.{length}
+use mathlib.Core.Bool.{Bool, _||_, cond}
+use mathlib.Core.List.{List, [], _++_, _∷_}
 
 -- "The product steps of f and g are 1 if either is constant, or they are equal, or inverse."
 unfoldable pub terminal? : Truth → Truth → Bool

@@ -1,7 +1,7 @@
 -- Boolean functions of some inputs as truth tables.
+use Prim.Native.Nat.{suc, zero, ℕ}
 use mathlib.Core.Bool.{Bool, Bool·beq, _&&_, cond, false, not, true}
 use mathlib.Core.List.{List, [], _∷_}
-use Prim.Native.Nat.{suc, zero, ℕ}
 
 -- A function of the inputs not yet passed. A leaf is a value; a node has the half where the next input is 0 and the half where it
 -- is 1. Input 1 is tested at the root, so the leaves stand in counting order: "input 1 is the leading digit, 0 before 1".

@@ -2,13 +2,13 @@
 -- The measure is how many bytes are left.
 use Prim.Native.Nat.{_-_, _≤_}
 use Rattle.card_file.proofs.NumberLaws.{number-ended, number-next, number-started, numberFrom}
+use Rattle.card_file.proofs.number.Statement.{statement}
+use Rattle.card_file.proofs.number.Tie as tie
 use Rattle.card_file.specs.CardFile.{HIGHEST, numberOf}
 use borrow.Author.Needs.{needs}
 use lib.ListN.{drop, length}
 use mathlib.Core.Path.{_∙_, _≡_, sym}
 use native.Mathlib.Omega.{arith}
-use Rattle.card_file.proofs.number.Statement.{statement}
-use Rattle.card_file.proofs.number.Tie as tie
 
 abbrev Inv-loop : tie.InvT-loop
 Inv-loop digits value₀ i₀ value i = (value ≤ HIGHEST) × (numberFrom value (drop i digits) ≡ numberOf digits)

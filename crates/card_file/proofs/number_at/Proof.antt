@@ -1,10 +1,10 @@
 -- The number of the part; no loop.
 -- The part and its number are those of the contracts.
-use Rattle.card_file.specs.CardFile.{numberOf}
-use mathlib.Core.Path.{_∙_, ap}
-use borrow.Author.Needs.{needs}
 use Rattle.card_file.proofs.number_at.Statement.{statement}
 use Rattle.card_file.proofs.number_at.Tie as tie
+use Rattle.card_file.specs.CardFile.{numberOf}
+use borrow.Author.Needs.{needs}
+use mathlib.Core.Path.{_∙_, ap}
 
 part-requires : tie.Need-part-requires
 part-requires c κs = search needs

@@ -1,11 +1,11 @@
 -- Where there are more parts it is the part's contract, otherwise the definition's default; no loop.
+use Rattle.card_file.proofs.part.Statement.{statement}
+use Rattle.card_file.proofs.part.Tie as tie
+use Rattle.text.specs.Split.{splitAt}
 use borrow.Author.Needs.{needs}
 use lib.ListN.{List·getD-eq-default}
 use mathlib.Core.List.{[]}
 use mathlib.Core.Path.{sym}
-use Rattle.text.specs.Split.{splitAt}
-use Rattle.card_file.proofs.part.Statement.{statement}
-use Rattle.card_file.proofs.part.Tie as tie
 
 part-count-requires : tie.Need-part-count-requires
 part-count-requires c κs = search needs

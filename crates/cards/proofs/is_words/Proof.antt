@@ -1,9 +1,9 @@
 -- Nothing has to hold from turn to turn.
 -- The measure is how many numbers are left.
 use Prim.Native.Nat.{_-_}
-use borrow.Author.Needs.{needs}
 use Rattle.cards.proofs.is_words.Statement.{statement}
 use Rattle.cards.proofs.is_words.Tie as tie
+use borrow.Author.Needs.{needs}
 
 abbrev Inv-loop : tie.InvT-loop
 Inv-loop words front count is-same₀ i₀ is-same i = Unit {0}

@@ -1,9 +1,9 @@
 -- The invariant: no more cards passed than were run.
 -- The measure is how many cards are left.
 use Prim.Native.Nat.{_-_, _≤_}
-use borrow.Author.Needs.{needs}
 use Rattle.cards.proofs.run_cards.Statement.{statement}
 use Rattle.cards.proofs.run_cards.Tie as tie
+use borrow.Author.Needs.{needs}
 
 abbrev Inv-loop : tie.InvT-loop
 Inv-loop file table₀ pairs₀ look₀ diagrams₀ stages₀ rows₀ count passed₀ k₀ t11 table pairs look diagrams stages rows passed k = passed ≤ k

@@ -1,10 +1,10 @@
 -- Nothing has to hold from turn to turn.
 -- The measure is how many bytes are left.
 use Prim.Native.Nat.{_-_}
-use lib.ListN.{length}
-use borrow.Author.Needs.{needs}
 use Rattle.cards.proofs.starts_with.Statement.{statement}
 use Rattle.cards.proofs.starts_with.Tie as tie
+use borrow.Author.Needs.{needs}
+use lib.ListN.{length}
 
 abbrev Inv-loop : tie.InvT-loop
 Inv-loop s front zero is-same₀ i₀ is-same i = Unit {0}

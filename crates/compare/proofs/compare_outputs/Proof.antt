@@ -1,9 +1,9 @@
 -- Nothing has to hold from turn to turn.
 -- The measure is how many outputs are left.
 use Prim.Native.Nat.{_-_}
-use borrow.Author.Needs.{needs}
 use Rattle.compare.proofs.compare_outputs.Statement.{statement}
 use Rattle.compare.proofs.compare_outputs.Tie as tie
+use borrow.Author.Needs.{needs}
 
 abbrev Inv-loop : tie.InvT-loop
 Inv-loop table₀ outputs pairs₀ look₀ diagrams₀ stages₀ output₀ table pairs look diagrams stages output = Unit {0}

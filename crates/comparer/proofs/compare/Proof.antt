@@ -1,13 +1,13 @@
 -- A refusal, or the sweep and what follows it; no loop.
 -- The laws say it of the arguments as given.
-use mathlib.Core.Path.{_∙_, refl, sym}
 use Rattle.comparer.proofs.CompareLaws.{finished, finishes, refusal-found, turned-back}
 use Rattle.comparer.proofs.RefusalLaws.{passed}
+use Rattle.comparer.proofs.compare.Statement.{statement}
+use Rattle.comparer.proofs.compare.Tie as tie
 use Rattle.comparer.specs.Code.{given}
 use Rattle.comparer.specs.Compare.{Given}
 use borrow.Author.Needs.{needs}
-use Rattle.comparer.proofs.compare.Statement.{statement}
-use Rattle.comparer.proofs.compare.Tie as tie
+use mathlib.Core.Path.{_∙_, refl, sym}
 
 first-refusal-requires : tie.Need-first-refusal-requires
 first-refusal-requires c κs = search needs

@@ -1,9 +1,9 @@
 -- A refusal, or the value where there is none; no loop.
 use Rattle.evaluate.proofs.ReadyLaws.{ready, refusal-answers, value-answers}
-use borrow.Author.Needs.{needs}
-use mathlib.Core.Path.{_∙_, refl, sym}
 use Rattle.evaluate.proofs.evaluate.Statement.{statement}
 use Rattle.evaluate.proofs.evaluate.Tie as tie
+use borrow.Author.Needs.{needs}
+use mathlib.Core.Path.{_∙_, refl, sym}
 
 first-refusal-requires : tie.Need-first-refusal-requires
 first-refusal-requires c κs = search needs

@@ -1,10 +1,10 @@
 -- The loop's invariant: `before` is the inverted literal of the vertex before that of row i.
 -- The measure is the number of rows that are left.
 use Prim.Native.Nat.{_*_, _+_, _-_, _≤_}
-use borrow.Author.Needs.{needs}
-use mathlib.Core.Path.{_≡_}
 use Rattle.evaluate_cases.proofs.fill_chain.Statement.{statement}
 use Rattle.evaluate_cases.proofs.fill_chain.Tie as tie
+use borrow.Author.Needs.{needs}
+use mathlib.Core.Path.{_≡_}
 
 abbrev Inv-loop : tie.InvT-loop
 Inv-loop table₀ i₀ before₀ table i before = (i ≤ 6144) × (before ≡ 129 + 2 * i)

@@ -1,9 +1,9 @@
 -- One call and what came of it; no loop.
+use Rattle.evaluate_cases.proofs.show.Statement.{statement}
+use Rattle.evaluate_cases.proofs.show.Tie as tie
 use borrow.Author.Needs.{needs}
 use lib.Seq.{length-take-le}
 use mathlib.Core.Path.{sym}
-use Rattle.evaluate_cases.proofs.show.Statement.{statement}
-use Rattle.evaluate_cases.proofs.show.Tie as tie
 
 no-values-requires : tie.Need-no-values-requires
 no-values-requires c κs = search needs

@@ -1,10 +1,10 @@
 -- The invariant: the place is not before the start.
 -- The measure is what is left up to the end.
 use Prim.Native.Nat.{_-_, _≤_}
-use native.Mathlib.Nat.{mod-lt}
-use borrow.Author.Needs.{needs}
 use Rattle.netlist_cases.proofs.repeat.Statement.{statement}
 use Rattle.netlist_cases.proofs.repeat.Tie as tie
+use borrow.Author.Needs.{needs}
+use native.Mathlib.Nat.{mod-lt}
 
 abbrev Inv-loop : tie.InvT-loop
 Inv-loop line file₀ from to at₀ file at = from ≤ at

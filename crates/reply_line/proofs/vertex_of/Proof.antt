@@ -1,9 +1,9 @@
 -- Each cause has its own vertex, by what the match tells of it.
 -- There is no loop.
-use mathlib.Core.Path.{refl}
-use borrow.Author.Needs.{needs}
 use Rattle.reply_line.proofs.vertex_of.Statement.{statement}
 use Rattle.reply_line.proofs.vertex_of.Tie as tie
+use borrow.Author.Needs.{needs}
+use mathlib.Core.Path.{refl}
 
 enum-told : tie.Need-enum-told
 enum-told c = search needs

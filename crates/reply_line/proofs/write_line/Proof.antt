@@ -1,9 +1,9 @@
 -- Each reply has its own line, by what the match tells of it.
 -- There is no loop.
-use mathlib.Core.Path.{sym}
-use borrow.Author.Needs.{needs}
 use Rattle.reply_line.proofs.write_line.Statement.{statement}
 use Rattle.reply_line.proofs.write_line.Tie as tie
+use borrow.Author.Needs.{needs}
+use mathlib.Core.Path.{sym}
 
 enum-known-reply : tie.Need-enum-known-reply
 enum-known-reply c = search needs

@@ -3,10 +3,10 @@
 use Rattle.sweep.specs.Inputs.{sheets}
 use Rattle.sweep.specs.Meet.{Board, board}
 use Rattle.sweep_cases.proofs.AskedLaws.{asked, closed}
-use native.Mathlib.Omega.{arith}
-use borrow.Author.Needs.{needs}
 use Rattle.sweep_cases.proofs.show_sweep.Statement.{statement}
 use Rattle.sweep_cases.proofs.show_sweep.Tie as tie
+use borrow.Author.Needs.{needs}
+use native.Mathlib.Omega.{arith}
 
 no-marks-requires : tie.Need-no-marks-requires
 no-marks-requires c κs = search needs

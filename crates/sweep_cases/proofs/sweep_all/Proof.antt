@@ -1,9 +1,9 @@
 -- Nothing has to hold from turn to turn.
 -- The measure is how many cards are left.
 use Prim.Native.Nat.{_-_}
-use borrow.Author.Needs.{needs}
 use Rattle.sweep_cases.proofs.sweep_all.Statement.{statement}
 use Rattle.sweep_cases.proofs.sweep_all.Tie as tie
+use borrow.Author.Needs.{needs}
 
 abbrev Inv-loop : tie.InvT-loop
 Inv-loop file pairs₀ places₀ diagrams₀ stages₀ rows₀ count k₀ pairs places diagrams stages rows k = Unit {0}

@@ -1,8 +1,8 @@
 -- The graph is read and tested, then swept; no loop.
 -- The test gives what a sweep is asked.
-use borrow.Author.Needs.{needs}
 use Rattle.sweep_cases.proofs.sweep_card.Statement.{statement}
 use Rattle.sweep_cases.proofs.sweep_card.Tie as tie
+use borrow.Author.Needs.{needs}
 
 field-requires : tie.Need-field-requires
 field-requires c κs = search needs

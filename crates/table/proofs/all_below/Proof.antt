@@ -2,13 +2,13 @@
 -- The measure is what is left of the length.
 use Prim.Native.Nat.{_-_, _≤_}
 use Rattle.table.proofs.TestLaws.{all-below-step}
+use Rattle.table.proofs.all_below.Statement.{statement}
+use Rattle.table.proofs.all_below.Tie as tie
 use Rattle.table.specs.Table.{allBelow?}
 use borrow.Author.Needs.{needs}
 use borrow.Author.Tests.{le-ltb, lt-ltb}
 use lib.ListN.{drop, drop-of-length-le, length}
 use mathlib.Core.Path.{_≡_, refl}
-use Rattle.table.proofs.all_below.Statement.{statement}
-use Rattle.table.proofs.all_below.Tie as tie
 
 abbrev Inv-loop : tie.InvT-loop
 Inv-loop words bound i₀ i = (i ≤ length words) × (allBelow? bound words ≡ allBelow? bound (drop i words))

@@ -1,8 +1,8 @@
 -- Each return is the first limit that is passed, or the last test; no loop.
-use Rattle.table.specs.Table.{beyondLimits?}
-use borrow.Author.Tests.{eq-eqb, le-ltb, lt-ltb, ne-eqb}
 use Rattle.table.proofs.beyond_limits.Statement.{statement}
 use Rattle.table.proofs.beyond_limits.Tie as tie
+use Rattle.table.specs.Table.{beyondLimits?}
+use borrow.Author.Tests.{eq-eqb, le-ltb, lt-ltb, ne-eqb}
 
 returns : tie.Need-returns
 unfolding beyondLimits?

@@ -2,6 +2,8 @@
 -- The measure is the number of rows that are left.
 use Prim.Native.Nat.{_*_, _+_, _-_, _≤_}
 use Rattle.table.proofs.TestLaws.{downward-step}
+use Rattle.table.proofs.is_downward.Statement.{statement}
+use Rattle.table.proofs.is_downward.Tie as tie
 use Rattle.table.specs.Table.{downward?, pairs}
 use borrow.Author.Needs.{needs}
 use borrow.Author.Tests.{not-false, not-true}
@@ -9,8 +11,6 @@ use lib.ListN.{drop}
 use mathlib.Core.Path.{_≡_, refl}
 use native.Mathlib.Nat.{sub-zero}
 use native.Mathlib.Omega.{arith}
-use Rattle.table.proofs.is_downward.Statement.{statement}
-use Rattle.table.proofs.is_downward.Tie as tie
 
 abbrev Inv-loop : tie.InvT-loop
 Inv-loop words first made i₀ v₀ i v =

@@ -1,12 +1,12 @@
 -- The rows are tested, then the output references; no loop.
 use Prim.Native.Nat.{_*_, _+_, _-_}
+use Rattle.table.proofs.is_out_of_order.Statement.{statement}
+use Rattle.table.proofs.is_out_of_order.Tie as tie
 use Rattle.table.specs.Table.{madeOf, outOfOrder?, outputWords, outputsOf, rowsOf}
 use borrow.Author.Needs.{needs}
 use borrow.Author.Tests.{not-false, not-true}
 use mathlib.Core.Path.{_≡_, refl}
 use native.Mathlib.Omega.{arith}
-use Rattle.table.proofs.is_out_of_order.Statement.{statement}
-use Rattle.table.proofs.is_out_of_order.Tie as tie
 
 shared-slice-read-made : tie.Need-shared-slice-read-made
 shared-slice-read-made c = search needs

@@ -1,10 +1,10 @@
 -- One word for each side; no loop.
 use Rattle.aig.specs.Literal.{lit}
 use Rattle.table.proofs.LayoutLaws.{first-side-at, second-side-at}
-use borrow.Author.Needs.{needs}
-use mathlib.Core.Path.{ap, sym}
 use Rattle.table.proofs.output_literal.Statement.{statement}
 use Rattle.table.proofs.output_literal.Tie as tie
+use borrow.Author.Needs.{needs}
+use mathlib.Core.Path.{ap, sym}
 
 shared-slice-read-made : tie.Need-shared-slice-read-made
 shared-slice-read-made c = search needs

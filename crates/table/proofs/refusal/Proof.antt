@@ -1,10 +1,10 @@
 -- The tests in the order of their numbers; no loop.
 use Rattle.table.proofs.AcceptedLaws.{well-formed}
+use Rattle.table.proofs.refusal.Statement.{statement}
+use Rattle.table.proofs.refusal.Tie as tie
 use Rattle.table.specs.Refusals.{firstRefusal}
 use borrow.Author.Needs.{needs}
 use mathlib.Core.Path.{_∙_, refl, sym}
-use Rattle.table.proofs.refusal.Statement.{statement}
-use Rattle.table.proofs.refusal.Tie as tie
 
 is-malformed-requires : tie.Need-is-malformed-requires
 is-malformed-requires c κs = search needs

@@ -1,9 +1,9 @@
 -- The second literal is tested where the first is below the bound; no loop.
+use Rattle.table.proofs.row_below.Statement.{statement}
+use Rattle.table.proofs.row_below.Tie as tie
 use Rattle.table.specs.Table.{rowBelow?}
 use borrow.Author.Needs.{needs}
 use borrow.Author.Tests.{le-ltb, lt-ltb}
-use Rattle.table.proofs.row_below.Statement.{statement}
-use Rattle.table.proofs.row_below.Tie as tie
 
 mul-if1 : tie.Need-mul-if1
 mul-if1 c = search needs

@@ -1,15 +1,15 @@
 -- Invariant: the words below i are copied, and nothing else is changed.
 -- The measure is what is left of the words.
-use mathlib.Core.List.{List, _++_}
-use mathlib.Core.Path.{_∙_, _≡_, ap, refl}
 use Prim.Native.Nat.{_-_, _<_, _≤_, ℕ}
-use native.Mathlib.Omega.{arith}
-use lib.ListN.{drop, getD, length, length-set, set, take}
-use lib.Seq.{length-take-le, take-length}
-use borrow.Author.Needs.{needs}
 use Rattle.comparer.proofs.CopyLaws.{copied-more}
 use Rattle.comparer.proofs.copy.copy_front.Statement.{statement}
 use Rattle.comparer.proofs.copy.copy_front.Tie as tie
+use borrow.Author.Needs.{needs}
+use lib.ListN.{drop, getD, length, length-set, set, take}
+use lib.Seq.{length-take-le, take-length}
+use mathlib.Core.List.{List, _++_}
+use mathlib.Core.Path.{_∙_, _≡_, ap, refl}
+use native.Mathlib.Omega.{arith}
 
 abbrev Inv-loop : tie.InvT-loop
 Inv-loop from to₀ i₀ to i = (i ≤ length from) × (length to ≡ length to₀) × (to ≡ take i from ++ drop i to₀)

@@ -1,9 +1,9 @@
 -- The first vertices' own words, then the rows in the part after them; no loop.
 -- One law joins the two.
-use borrow.Author.Needs.{needs}
 use Rattle.comparer.proofs.CopyLaws.{rows-copied}
 use Rattle.comparer.proofs.copy.copy_in.Statement.{statement}
 use Rattle.comparer.proofs.copy.copy_in.Tie as tie
+use borrow.Author.Needs.{needs}
 
 shared-slice-read-first : tie.Need-shared-slice-read-first
 shared-slice-read-first c = search needs

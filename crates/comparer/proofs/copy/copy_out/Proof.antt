@@ -1,9 +1,9 @@
 -- The rows after the header, then the output references resolved in place; no loop.
 -- One law says what is lent between the two, one what is left.
-use borrow.Author.Needs.{needs}
 use Rattle.comparer.proofs.CopyLaws.{outputs-resolved, outputs-within}
 use Rattle.comparer.proofs.copy.copy_out.Statement.{statement}
 use Rattle.comparer.proofs.copy.copy_out.Tie as tie
+use borrow.Author.Needs.{needs}
 
 slice-read-made : tie.Need-slice-read-made
 slice-read-made c = search needs

@@ -1,16 +1,16 @@
 -- Invariant: the vertices below v stand for themselves, and no other word is changed.
 -- The measure is what is left of the first vertices.
-use mathlib.Core.List.{List, _++_}
-use mathlib.Core.Path.{_∙_, _≡_, ap, refl}
 use Prim.Native.Nat.{_*_, _+_, _-_, _<_, _≤_, ℕ}
-use native.Mathlib.Omega.{arith}
-use lib.ListN.{drop, length}
-use borrow.Author.Needs.{needs}
 use Rattle.aig.proofs.OwnLaws.{length-own}
 use Rattle.aig.specs.Lookup.{ownWords, withRow}
 use Rattle.comparer.proofs.CopyLaws.{own-more}
 use Rattle.comparer.proofs.copy.own_front.Statement.{statement}
 use Rattle.comparer.proofs.copy.own_front.Tie as tie
+use borrow.Author.Needs.{needs}
+use lib.ListN.{drop, length}
+use mathlib.Core.List.{List, _++_}
+use mathlib.Core.Path.{_∙_, _≡_, ap, refl}
+use native.Mathlib.Omega.{arith}
 
 abbrev Inv-loop : tie.InvT-loop
 Inv-loop pairs₀ first v₀ pairs v = (v ≤ first) × (length pairs ≡ length pairs₀) × (pairs ≡ ownWords 0 v ++ drop (2 * v) pairs₀)

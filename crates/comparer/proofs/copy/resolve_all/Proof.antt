@@ -1,16 +1,16 @@
 -- Invariant: the words below i are resolved, and nothing else is changed.
 -- The measure is what is left of the words.
-use mathlib.Core.List.{_++_, map}
-use mathlib.Core.Path.{_∙_, _≡_, ap, refl}
 use Prim.Native.Nat.{_-_, _<_, _≤_}
-use native.Mathlib.Omega.{arith}
-use lib.ListN.{drop, getD, length, length-set, set, take}
-use borrow.Author.Needs.{needs}
 use Rattle.aig.specs.declared.literal.Literal.{Literal}
 use Rattle.comparer.proofs.CopyLaws.{mapped-all, mapped-more, mapped-next}
 use Rattle.comparer.proofs.copy.resolve_all.Statement.{statement}
 use Rattle.comparer.proofs.copy.resolve_all.Tie as tie
 use Rattle.sweep_model.specs.Normalise.{resolve}
+use borrow.Author.Needs.{needs}
+use lib.ListN.{drop, getD, length, length-set, set, take}
+use mathlib.Core.List.{_++_, map}
+use mathlib.Core.Path.{_∙_, _≡_, ap, refl}
+use native.Mathlib.Omega.{arith}
 
 abbrev Inv-loop : tie.InvT-loop
 Inv-loop words₀ pairs i₀ words i = (i ≤ length words₀) × (length words ≡ length words₀) × (words ≡ map (resolve pairs) (take i words₀) ++ drop i words₀)

@@ -1,11 +1,11 @@
 -- Each return is the first test that applies, the tests before it having failed; no loop.
 -- The number of vertices is that of a header within the limits.
-use mathlib.Core.Path.{_∙_, refl, sym}
-use borrow.Author.Needs.{needs}
-use borrow.Author.Tests.{le-leb, le-ltb, lt-leb, lt-ltb}
 use Rattle.comparer.proofs.refusal.call_refusal.Statement.{statement}
 use Rattle.comparer.proofs.refusal.call_refusal.Tie as tie
 use Rattle.table.specs.Refusals.{firstRefusal}
+use borrow.Author.Needs.{needs}
+use borrow.Author.Tests.{le-leb, le-ltb, lt-leb, lt-ltb}
+use mathlib.Core.Path.{_∙_, refl, sym}
 
 shared-slice-read-if1 : tie.Need-shared-slice-read-if1
 shared-slice-read-if1 c = search needs

@@ -1,7 +1,5 @@
 -- The refusals of the table, then the others; no loop.
 -- Where the table is accepted, the tests after its own decide.
-use mathlib.Core.Path.{_∙_, sym}
-use borrow.Author.Needs.{needs}
 use Rattle.comparer.proofs.refusal.first_refusal.Statement.{statement}
 use Rattle.comparer.proofs.refusal.first_refusal.Tie as tie
 use Rattle.comparer.specs.Code.{limitsOf, roomOf}
@@ -9,6 +7,8 @@ use Rattle.comparer.specs.Compare.{callTests}
 use Rattle.table.proofs.AcceptedLaws.{accepted}
 use Rattle.table.proofs.RefusalLaws.{refused-first, table-passed}
 use Rattle.table.specs.Table.{tableTests}
+use borrow.Author.Needs.{needs}
+use mathlib.Core.Path.{_∙_, sym}
 
 refusal-requires : tie.Need-refusal-requires
 refusal-requires c κs = search needs

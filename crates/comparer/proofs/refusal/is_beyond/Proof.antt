@@ -1,10 +1,10 @@
 -- Each limit is tested where those before it are within theirs; no loop.
 -- Each return is the test that decides.
-use mathlib.Core.Path.{_∙_, refl, sym}
-use borrow.Author.Needs.{needs}
 use Rattle.comparer.proofs.refusal.is_beyond.Statement.{statement}
 use Rattle.comparer.proofs.refusal.is_beyond.Tie as tie
 use Rattle.comparer.specs.Compare.{beyond?}
+use borrow.Author.Needs.{needs}
+use mathlib.Core.Path.{_∙_, refl, sym}
 
 cast-is-outside : tie.Need-cast-is-outside
 cast-is-outside c = search needs

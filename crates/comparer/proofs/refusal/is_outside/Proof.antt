@@ -1,10 +1,10 @@
 -- The most is tested where the number is at least 1; no loop.
 -- Each return is the test that decides.
-use mathlib.Core.Path.{refl}
-use borrow.Author.Tests.{le-leb, lt-leb}
 use Rattle.comparer.proofs.refusal.is_outside.Statement.{statement}
 use Rattle.comparer.proofs.refusal.is_outside.Tie as tie
 use Rattle.comparer.specs.Compare.{outside?}
+use borrow.Author.Tests.{le-leb, lt-leb}
+use mathlib.Core.Path.{refl}
 
 returns : tie.Need-returns
 unfolding outside?

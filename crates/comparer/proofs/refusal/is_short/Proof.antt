@@ -1,11 +1,11 @@
 -- Each length is tested where those before it are long enough; no loop.
 -- Each return is the test that decides.
-use mathlib.Core.Path.{refl}
-use borrow.Author.Needs.{needs}
-use borrow.Author.Tests.{le-ltb, lt-ltb}
 use Rattle.comparer.proofs.refusal.is_short.Statement.{statement}
 use Rattle.comparer.proofs.refusal.is_short.Tie as tie
 use Rattle.comparer.specs.Compare.{shortSlice?}
+use borrow.Author.Needs.{needs}
+use borrow.Author.Tests.{le-ltb, lt-ltb}
+use mathlib.Core.Path.{refl}
 
 mul-words : tie.Need-mul-words
 mul-words c = search needs

@@ -1,11 +1,11 @@
 -- One return for each end; no loop.
 -- Each rewrites with the end.
-use mathlib.Core.Path.{refl}
+use Rattle.comparer.proofs.reply.reply_of.Statement.{statement}
+use Rattle.comparer.proofs.reply.reply_of.Tie as tie
 use Rattle.sweep.specs.Ending.{verdictOf}
 use Rattle.sweep_model.specs.Reply.{replyWith}
 use borrow.Author.Needs.{needs}
-use Rattle.comparer.proofs.reply.reply_of.Statement.{statement}
-use Rattle.comparer.proofs.reply.reply_of.Tie as tie
+use mathlib.Core.Path.{refl}
 
 cast-t5 : tie.Need-cast-t5
 cast-t5 c = search needs

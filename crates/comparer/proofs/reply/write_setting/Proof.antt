@@ -1,11 +1,11 @@
 -- One return for each end; no loop.
 -- Each rewrites with the end.
-use mathlib.Core.Path.{refl}
+use Rattle.comparer.proofs.reply.write_setting.Statement.{statement}
+use Rattle.comparer.proofs.reply.write_setting.Tie as tie
 use Rattle.comparer.specs.Compare.{settingLeft}
 use Rattle.sweep.specs.Ending.{verdictOf}
 use borrow.Author.Needs.{needs}
-use Rattle.comparer.proofs.reply.write_setting.Statement.{statement}
-use Rattle.comparer.proofs.reply.write_setting.Tie as tie
+use mathlib.Core.Path.{refl}
 
 enum-told : tie.Need-enum-told
 enum-told c = search needs

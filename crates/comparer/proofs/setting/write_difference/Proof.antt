@@ -1,10 +1,10 @@
 -- The digits that the diagrams give are the bytes of the setting; no loop.
 -- One law says so.
-use mathlib.Core.Path.{_∙_}
-use borrow.Author.Needs.{needs}
 use Rattle.comparer.proofs.SettingLaws.{difference-left}
 use Rattle.comparer.proofs.setting.write_difference.Statement.{statement}
 use Rattle.comparer.proofs.setting.write_difference.Tie as tie
+use borrow.Author.Needs.{needs}
+use mathlib.Core.Path.{_∙_}
 
 first-difference-requires : tie.Need-first-difference-requires
 first-difference-requires c κs = search needs

@@ -1,15 +1,15 @@
 -- Invariant: the bytes below i are written, and nothing else is changed.
 -- The measure is what is left of the inputs.
-use mathlib.Core.List.{List, _++_}
-use mathlib.Core.Path.{_∙_, _≡_, ap, refl}
 use Prim.Native.Nat.{_-_, _<_, _≤_, ℕ}
-use native.Mathlib.Omega.{arith}
-use lib.ListN.{drop, length, length-set, replicate, set}
-use borrow.Author.Fill.{fill-more}
-use borrow.Author.Needs.{needs}
 use Rattle.comparer.proofs.SettingLaws.{zeros-left}
 use Rattle.comparer.proofs.setting.write_zeros.Statement.{statement}
 use Rattle.comparer.proofs.setting.write_zeros.Tie as tie
+use borrow.Author.Fill.{fill-more}
+use borrow.Author.Needs.{needs}
+use lib.ListN.{drop, length, length-set, replicate, set}
+use mathlib.Core.List.{List, _++_}
+use mathlib.Core.Path.{_∙_, _≡_, ap, refl}
+use native.Mathlib.Omega.{arith}
 
 abbrev Inv-loop : tie.InvT-loop
 Inv-loop inputs setting₀ i₀ setting i = (i ≤ inputs) × (length setting ≡ length setting₀) × (setting ≡ replicate i 48 ++ drop i setting₀)

@@ -1,11 +1,11 @@
 -- The header, the two literals and the limits; no loop.
 -- The literals are those of the problem.
-use mathlib.Core.Path.{ap, refl}
 use Rattle.aig.specs.declared.literal.Literal.{Literal}
-use Rattle.comparer.specs.Compare.{problemOf}
-use borrow.Author.Needs.{needs}
 use Rattle.comparer.proofs.task.task_of.Statement.{statement}
 use Rattle.comparer.proofs.task.task_of.Tie as tie
+use Rattle.comparer.specs.Compare.{problemOf}
+use borrow.Author.Needs.{needs}
+use mathlib.Core.Path.{ap, refl}
 
 output-literal-requires : tie.Need-output-literal-requires
 output-literal-requires c κs = search needs

@@ -1,15 +1,15 @@
 -- The rows and the outputs, the setting, the reply; no loop.
 -- Each equation is a callee's.
-use mathlib.Core.Path.{_∙_, ap, sym}
 use Prim.Native.Nat.{_*_, ℕ}
-use native.Mathlib.Omega.{arith}
-use lib.ListN.{take}
-use lib.Seq.{length-take-le}
+use Rattle.comparer.proofs.work.finish.Statement.{statement}
+use Rattle.comparer.proofs.work.finish.Tie as tie
 use Rattle.comparer.specs.Compare.{tableLeft}
 use Rattle.table.specs.Table.{inputsOf}
 use borrow.Author.Needs.{needs}
-use Rattle.comparer.proofs.work.finish.Statement.{statement}
-use Rattle.comparer.proofs.work.finish.Tie as tie
+use lib.ListN.{take}
+use lib.Seq.{length-take-le}
+use mathlib.Core.Path.{_∙_, ap, sym}
+use native.Mathlib.Omega.{arith}
 
 slice-read-inputs : tie.Need-slice-read-inputs
 slice-read-inputs c = search needs

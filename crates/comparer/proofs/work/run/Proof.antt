@@ -1,15 +1,15 @@
 -- The rows are copied in, the task is made, the sweep runs in the front of the pairs and of the marks; no loop.
 -- One law says that the sweep can be asked, one what its end says.
-use mathlib.Core.Path.{sym}
 use Prim.Native.Nat.{_*_}
-use native.Mathlib.Omega.{arith}
-use lib.Seq.{length-take-le}
 use Rattle.comparer.proofs.RunLaws.{asked, lent-long, ran}
+use Rattle.comparer.proofs.work.run.Statement.{statement}
+use Rattle.comparer.proofs.work.run.Tie as tie
 use Rattle.sweep.specs.Inputs.{sheets}
 use Rattle.sweep.specs.Meet.{Board, board}
 use borrow.Author.Needs.{needs}
-use Rattle.comparer.proofs.work.run.Statement.{statement}
-use Rattle.comparer.proofs.work.run.Tie as tie
+use lib.Seq.{length-take-le}
+use mathlib.Core.Path.{sym}
+use native.Mathlib.Omega.{arith}
 
 copy-in-requires : tie.Need-copy-in-requires
 copy-in-requires c κs = search needs

@@ -2,13 +2,13 @@
 -- The measure is what is left of the length.
 use Prim.Native.Nat.{_-_, _≤_}
 use Rattle.evaluate.proofs.DigitLaws.{all-digits-step}
+use Rattle.evaluate.proofs.refusal.all_digits.Statement.{statement}
+use Rattle.evaluate.proofs.refusal.all_digits.Tie as tie
 use Rattle.evaluate.specs.Evaluate.{allDigits?}
 use borrow.Author.Needs.{needs}
 use borrow.Author.Tests.{not-false, not-true}
 use lib.ListN.{drop, drop-of-length-le, length}
 use mathlib.Core.Path.{_≡_, refl}
-use Rattle.evaluate.proofs.refusal.all_digits.Statement.{statement}
-use Rattle.evaluate.proofs.refusal.all_digits.Tie as tie
 
 abbrev Inv-loop : tie.InvT-loop
 Inv-loop setting i₀ i = (i ≤ length setting) × (allDigits? setting ≡ allDigits? (drop i setting))

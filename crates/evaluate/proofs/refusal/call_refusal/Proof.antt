@@ -1,10 +1,10 @@
 -- Each return is the first test that applies, the tests before it having failed; no loop.
+use Rattle.evaluate.proofs.refusal.call_refusal.Statement.{statement}
+use Rattle.evaluate.proofs.refusal.call_refusal.Tie as tie
 use Rattle.table.specs.Refusals.{firstRefusal}
 use borrow.Author.Needs.{needs}
 use borrow.Author.Tests.{eq-eqb, le-ltb, lt-ltb, ne-eqb}
 use mathlib.Core.Path.{_∙_, refl, sym}
-use Rattle.evaluate.proofs.refusal.call_refusal.Statement.{statement}
-use Rattle.evaluate.proofs.refusal.call_refusal.Tie as tie
 
 shared-slice-read-is-unknown : tie.Need-shared-slice-read-is-unknown
 shared-slice-read-is-unknown c = search needs

@@ -1,12 +1,12 @@
 -- The refusals of the table, then the others; no loop.
+use Rattle.evaluate.proofs.refusal.first_refusal.Statement.{statement}
+use Rattle.evaluate.proofs.refusal.first_refusal.Tie as tie
 use Rattle.evaluate.specs.Evaluate.{callTests}
 use Rattle.table.proofs.AcceptedLaws.{accepted}
 use Rattle.table.proofs.RefusalLaws.{refused-first, table-passed}
 use Rattle.table.specs.Table.{tableTests}
 use borrow.Author.Needs.{needs}
 use mathlib.Core.Path.{_∙_, sym}
-use Rattle.evaluate.proofs.refusal.first_refusal.Statement.{statement}
-use Rattle.evaluate.proofs.refusal.first_refusal.Tie as tie
 
 refusal-requires : tie.Need-refusal-requires
 refusal-requires c κs = search needs

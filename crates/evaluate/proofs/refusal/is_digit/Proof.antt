@@ -1,8 +1,8 @@
 -- The second test is made where the first fails; no loop.
-use Rattle.evaluate.specs.Evaluate.{digit?}
-use borrow.Author.Tests.{eq-eqb, ne-eqb}
 use Rattle.evaluate.proofs.refusal.is_digit.Statement.{statement}
 use Rattle.evaluate.proofs.refusal.is_digit.Tie as tie
+use Rattle.evaluate.specs.Evaluate.{digit?}
+use borrow.Author.Tests.{eq-eqb, ne-eqb}
 
 returns : tie.Need-returns
 unfolding digit?

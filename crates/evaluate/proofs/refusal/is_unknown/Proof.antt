@@ -1,10 +1,10 @@
 -- The output number is tested where the side is 1 or 2; no loop.
+use Rattle.evaluate.proofs.refusal.is_unknown.Statement.{statement}
+use Rattle.evaluate.proofs.refusal.is_unknown.Tie as tie
 use Rattle.evaluate.specs.Evaluate.{unknown?}
 use borrow.Author.Needs.{needs}
 use borrow.Author.Tests.{not-false, not-true}
 use mathlib.Core.Path.{refl}
-use Rattle.evaluate.proofs.refusal.is_unknown.Statement.{statement}
-use Rattle.evaluate.proofs.refusal.is_unknown.Tie as tie
 
 is-side-requires : tie.Need-is-side-requires
 is-side-requires c κs = search needs

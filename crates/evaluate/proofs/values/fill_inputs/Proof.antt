@@ -2,6 +2,8 @@
 -- The measure is what is left of the setting.
 use Prim.Native.Nat.{_+_, _-_, _<_, _≤_}
 use Rattle.evaluate.proofs.DigitLaws.{digit-at, digits-end, digits-step}
+use Rattle.evaluate.proofs.values.fill_inputs.Statement.{statement}
+use Rattle.evaluate.proofs.values.fill_inputs.Tie as tie
 use Rattle.evaluate.specs.Evaluate.{bit, digitsOf}
 use borrow.Author.Needs.{needs}
 use lib.ListN.{drop, length, length-set, take}
@@ -10,8 +12,6 @@ use mathlib.Core.Bool.{false}
 use mathlib.Core.List.{_++_, _∷_, map}
 use mathlib.Core.Path.{_∙_, _≡_, refl, sym}
 use native.Mathlib.Omega.{arith}
-use Rattle.evaluate.proofs.values.fill_inputs.Statement.{statement}
-use Rattle.evaluate.proofs.values.fill_inputs.Tie as tie
 
 abbrev Inv-loop : tie.InvT-loop
 Inv-loop setting values₀ i₀ values i =

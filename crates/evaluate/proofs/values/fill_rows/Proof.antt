@@ -2,6 +2,8 @@
 -- The measure is the number of rows that are left.
 use Prim.Native.Nat.{_*_, _+_, _-_, _<_, _≤_}
 use Rattle.evaluate.proofs.NumberLaws.{bits-ahead, values-end, values-step}
+use Rattle.evaluate.proofs.values.fill_rows.Statement.{statement}
+use Rattle.evaluate.proofs.values.fill_rows.Tie as tie
 use Rattle.evaluate.specs.Values.{numberValues}
 use Rattle.table.proofs.AcceptedLaws.{row-words-below}
 use Rattle.table.specs.Table.{inputsOf, pairs, rowsOf, verticesOf}
@@ -10,8 +12,6 @@ use lib.ListN.{drop, length, length-set, take}
 use mathlib.Core.Path.{_∙_, _≡_, refl, sym}
 use native.Mathlib.Nat.{sub-zero}
 use native.Mathlib.Omega.{arith}
-use Rattle.evaluate.proofs.values.fill_rows.Statement.{statement}
-use Rattle.evaluate.proofs.values.fill_rows.Tie as tie
 
 abbrev Inv-loop : tie.InvT-loop
 Inv-loop table values₀ made vertex₀ i₀ values vertex i =

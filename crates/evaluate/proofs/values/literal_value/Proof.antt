@@ -1,9 +1,9 @@
 -- One read, inverted where the literal is; no loop.
+use Rattle.evaluate.proofs.values.literal_value.Statement.{statement}
+use Rattle.evaluate.proofs.values.literal_value.Tie as tie
 use borrow.Author.Needs.{needs}
 use mathlib.Core.Path.{_∙_, sym}
 use native.Mathlib.Omega.{arith}
-use Rattle.evaluate.proofs.values.literal_value.Statement.{statement}
-use Rattle.evaluate.proofs.values.literal_value.Tie as tie
 
 vertex-requires : tie.Need-vertex-requires
 vertex-requires c κs = search needs

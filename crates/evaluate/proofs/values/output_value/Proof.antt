@@ -1,9 +1,9 @@
 -- The values of the inputs, then of the rows, then of the output's literal; no loop.
 use Rattle.evaluate.proofs.ReadyLaws.{all-values, inputs-bits, output-bit, output-found, output-vertex}
-use borrow.Author.Needs.{needs}
-use mathlib.Core.Path.{_∙_}
 use Rattle.evaluate.proofs.values.output_value.Statement.{statement}
 use Rattle.evaluate.proofs.values.output_value.Tie as tie
+use borrow.Author.Needs.{needs}
+use mathlib.Core.Path.{_∙_}
 
 fill-inputs-requires : tie.Need-fill-inputs-requires
 fill-inputs-requires c κs = search needs

@@ -1,11 +1,11 @@
 -- The product of the values of the two literals, each 0 or 1; no loop.
 use Prim.Native.Nat.{_*_}
 use Rattle.evaluate.proofs.NumberLaws.{numbers, read, vertex-bit}
+use Rattle.evaluate.proofs.values.row_value.Statement.{statement}
+use Rattle.evaluate.proofs.values.row_value.Tie as tie
 use borrow.Author.Needs.{needs}
 use mathlib.Core.Path.{ap₂}
 use native.Mathlib.Omega.{arith}
-use Rattle.evaluate.proofs.values.row_value.Statement.{statement}
-use Rattle.evaluate.proofs.values.row_value.Tie as tie
 
 mul-t6 : tie.Need-mul-t6
 mul-t6 c = search needs

@@ -1,13 +1,13 @@
 -- The invariant: the check of the lines ahead, by what is due and its number, gives the answer for the file.
 -- The measure is what is left of the file: each line that is passed has an end byte.
-use mathlib.Core.Path.{_∙_}
 use Prim.Native.Nat.{_-_}
-use native.Mathlib.Omega.{arith}
-use borrow.Author.Needs.{needs}
-use lib.ListN.{length}
 use Rattle.netlist.proofs.PassingLaws.{Ahead, ahead-begins, ahead-ended, ahead-ends, ahead-next, ahead-refuses, line-few, stepped}
 use Rattle.netlist.proofs.check.check_file.Statement.{statement}
 use Rattle.netlist.proofs.check.check_file.Tie as tie
+use borrow.Author.Needs.{needs}
+use lib.ListN.{length}
+use mathlib.Core.Path.{_∙_}
+use native.Mathlib.Omega.{arith}
 
 abbrev Inv-loop : tie.InvT-loop
 Inv-loop file start at₀ line₀ due₀ at line due = Ahead file start at line due

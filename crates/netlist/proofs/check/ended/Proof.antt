@@ -1,11 +1,11 @@
 -- Each return is one case of the end of a file; no loop.
 -- All counts are reached at the last return.
-use mathlib.Core.Path.{refl, sym}
-use borrow.Author.Needs.{needs}
 use Rattle.netlist.proofs.StepLaws.{finish-all, finish-missing}
 use Rattle.netlist.proofs.check.ended.Statement.{statement}
 use Rattle.netlist.proofs.check.ended.Tie as tie
 use Rattle.netlist.specs.Check.{finish}
+use borrow.Author.Needs.{needs}
+use mathlib.Core.Path.{refl, sym}
 
 enum-known-due : tie.Need-enum-known-due
 enum-known-due c = search needs

@@ -1,11 +1,11 @@
 -- Each return is one case of the step, by the tests that led there; no loop.
 -- The counts stay within their limits, so that no sum passes its type.
-use mathlib.Core.Path.{sym}
-use native.Mathlib.Omega.{arith}
-use borrow.Author.Needs.{needs}
 use Rattle.netlist.proofs.StepLaws.{ands-few, gate-beyond, gate-extra, gate-next}
 use Rattle.netlist.proofs.check.gate_step.Statement.{statement}
 use Rattle.netlist.proofs.check.gate_step.Tie as tie
+use borrow.Author.Needs.{needs}
+use mathlib.Core.Path.{sym}
+use native.Mathlib.Omega.{arith}
 
 returns : tie.Need-returns
 returns c = sym (gate-extra _ _ _ _ (c .if1 .taken))

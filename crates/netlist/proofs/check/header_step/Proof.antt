@@ -1,11 +1,11 @@
 -- Each return is one case of the step, by the tests that led there; no loop.
 -- What is left at the last return is within every limit.
-use mathlib.Core.Path.{sym}
-use native.Mathlib.Omega.{arith}
-use borrow.Author.Needs.{needs}
 use Rattle.netlist.proofs.StepLaws.{header-beyond, header-edition, header-next}
 use Rattle.netlist.proofs.check.header_step.Statement.{statement}
 use Rattle.netlist.proofs.check.header_step.Tie as tie
+use borrow.Author.Needs.{needs}
+use mathlib.Core.Path.{sym}
+use native.Mathlib.Omega.{arith}
 
 returns : tie.Need-returns
 returns c = sym (header-edition _ _ _ _ (c .if1 .taken))

@@ -1,9 +1,9 @@
 -- Each arm is one kind of record; no loop.
 -- The calls keep the counts within their limits.
-use mathlib.Core.Path.{refl}
-use borrow.Author.Needs.{needs}
 use Rattle.netlist.proofs.check.later_step.Statement.{statement}
 use Rattle.netlist.proofs.check.later_step.Tie as tie
+use borrow.Author.Needs.{needs}
+use mathlib.Core.Path.{refl}
 
 enum-told : tie.Need-enum-told
 enum-told c = search needs

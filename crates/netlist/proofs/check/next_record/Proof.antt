@@ -1,10 +1,10 @@
 -- The line ends at an end byte or at the end of the file; no loop.
 -- Without an end byte it is malformed.
-use mathlib.Core.Path.{sym, _∙_}
-use borrow.Author.Needs.{needs}
 use Rattle.netlist.proofs.LineLaws.{line-last, line-whole}
 use Rattle.netlist.proofs.check.next_record.Statement.{statement}
 use Rattle.netlist.proofs.check.next_record.Tie as tie
+use borrow.Author.Needs.{needs}
+use mathlib.Core.Path.{sym, _∙_}
 
 until-requires : tie.Need-until-requires
 until-requires c κs = search needs

@@ -1,9 +1,9 @@
 -- The line is passed by one call; no loop.
 -- It has an end byte, so that the place after it is in the file or at its end.
-use mathlib.Core.Path.{refl}
-use borrow.Author.Needs.{needs}
 use Rattle.netlist.proofs.lines.line_end.Statement.{statement}
 use Rattle.netlist.proofs.lines.line_end.Tie as tie
+use borrow.Author.Needs.{needs}
+use mathlib.Core.Path.{refl}
 
 until-requires : tie.Need-until-requires
 until-requires c κs = search needs

@@ -1,9 +1,9 @@
 -- The line is found and then read; no loop.
 -- The line is a part of the file.
-use mathlib.Core.Path.{refl, _∙_}
-use borrow.Author.Needs.{needs}
 use Rattle.netlist.proofs.lines.read_line.Statement.{statement}
 use Rattle.netlist.proofs.lines.read_line.Tie as tie
+use borrow.Author.Needs.{needs}
+use mathlib.Core.Path.{refl, _∙_}
 
 until-requires : tie.Need-until-requires
 until-requires c κs = search needs

@@ -1,9 +1,9 @@
 -- Each return is one case of the three fields; no loop.
 -- The last has read all of them.
-use mathlib.Core.Path.{refl}
-use borrow.Author.Needs.{needs}
 use Rattle.netlist.proofs.records.gate_of.Statement.{statement}
 use Rattle.netlist.proofs.records.gate_of.Tie as tie
+use borrow.Author.Needs.{needs}
+use mathlib.Core.Path.{refl}
 
 enum-known-op : tie.Need-enum-known-op
 enum-known-op c = search needs

@@ -1,9 +1,9 @@
 -- Each return is one case of the four fields; no loop.
 -- The last has read all of them.
-use mathlib.Core.Path.{refl}
-use borrow.Author.Needs.{needs}
 use Rattle.netlist.proofs.records.header_of.Statement.{statement}
 use Rattle.netlist.proofs.records.header_of.Tie as tie
+use borrow.Author.Needs.{needs}
+use mathlib.Core.Path.{refl}
 
 enum-known-edition : tie.Need-enum-known-edition
 enum-known-edition c = search needs

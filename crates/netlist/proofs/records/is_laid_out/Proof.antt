@@ -1,11 +1,11 @@
 -- The two tests in turn; no loop.
 -- There is always a first part.
-use mathlib.Core.Path.{refl, sym, _∙_}
-use borrow.Author.Needs.{needs}
-use borrow.Author.Tests.{eq-eqb, ne-eqb}
 use Rattle.netlist.proofs.records.is_laid_out.Statement.{statement}
 use Rattle.netlist.proofs.records.is_laid_out.Tie as tie
 use Rattle.text.proofs.SplitLaws.{splitAt-some}
+use borrow.Author.Needs.{needs}
+use borrow.Author.Tests.{eq-eqb, ne-eqb}
+use mathlib.Core.Path.{refl, sym, _∙_}
 
 part-count-requires : tie.Need-part-count-requires
 part-count-requires c κs = search needs

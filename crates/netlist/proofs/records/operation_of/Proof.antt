@@ -1,10 +1,10 @@
 -- Each return is one case of the three byte strings; no loop.
 -- The last has met none of them.
-use mathlib.Core.Path.{refl, sym, _∙_}
-use borrow.Author.Needs.{needs}
 use Rattle.netlist.proofs.records.operation_of.Statement.{statement}
 use Rattle.netlist.proofs.records.operation_of.Tie as tie
 use Rattle.netlist.specs.Records.{operationOf}
+use borrow.Author.Needs.{needs}
+use mathlib.Core.Path.{refl, sym, _∙_}
 
 slice-aggregate-same : tie.Need-slice-aggregate-same
 slice-aggregate-same c = search needs

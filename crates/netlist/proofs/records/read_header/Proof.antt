@@ -1,9 +1,9 @@
 -- The fields are read one by one and then put together; no loop.
 -- The number of fields is known.
-use mathlib.Core.Path.{refl, _∙_}
-use borrow.Author.Needs.{needs}
 use Rattle.netlist.proofs.records.read_header.Statement.{statement}
 use Rattle.netlist.proofs.records.read_header.Tie as tie
+use borrow.Author.Needs.{needs}
+use mathlib.Core.Path.{refl, _∙_}
 
 part-requires : tie.Need-part-requires
 part-requires c κs = search needs

@@ -1,11 +1,11 @@
 -- The field is read; no loop.
 -- The number of fields is known.
-use mathlib.Core.Path.{_∙_, ap, sym}
-use borrow.Author.Needs.{needs}
 use Rattle.netlist.proofs.records.read_output.Statement.{statement}
 use Rattle.netlist.proofs.records.read_output.Tie as tie
 use Rattle.netlist.specs.Records.{outputOf}
 use Rattle.text.specs.Numerals.{numeralOf}
+use borrow.Author.Needs.{needs}
+use mathlib.Core.Path.{_∙_, ap, sym}
 
 part-requires : tie.Need-part-requires
 part-requires c κs = search needs

@@ -1,13 +1,13 @@
 -- Each return is one kind of record, by the tests that led there; no loop.
 -- A test that holds gives the number of fields.
-use mathlib.Core.List.{[], _∷_}
-use mathlib.Core.Path.{refl, sym, _∙_}
-use borrow.Author.Needs.{needs}
 use Rattle.netlist.proofs.RecordLaws.{laid-out-count}
 use Rattle.netlist.proofs.records.read_record.Statement.{statement}
 use Rattle.netlist.proofs.records.read_record.Tie as tie
 use Rattle.netlist.specs.Records.{fieldsRecord, recordOf}
 use Rattle.text.specs.Split.{splitAt}
+use borrow.Author.Needs.{needs}
+use mathlib.Core.List.{[], _∷_}
+use mathlib.Core.Path.{refl, sym, _∙_}
 
 slice-aggregate-is-laid-out : tie.Need-slice-aggregate-is-laid-out
 slice-aggregate-is-laid-out c = search needs

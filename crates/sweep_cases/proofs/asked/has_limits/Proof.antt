@@ -1,9 +1,9 @@
 -- Three tests, one after the other; no loop.
 -- What each gives where it passes is the limit's part.
-use mathlib.Core.Bool.{false≢true}
-use borrow.Author.Needs.{needs}
 use Rattle.sweep_cases.proofs.asked.has_limits.Statement.{statement}
 use Rattle.sweep_cases.proofs.asked.has_limits.Tie as tie
+use borrow.Author.Needs.{needs}
+use mathlib.Core.Bool.{false≢true}
 
 is-between-requires : tie.Need-is-between-requires
 is-between-requires c κs = search needs

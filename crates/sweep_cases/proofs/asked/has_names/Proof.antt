@@ -1,12 +1,12 @@
 -- A test that fails gives false, and where none fails each part is what was tested; no loop.
 -- Proved by arithmetic.
 use Prim.Native.Nat.{_*_}
+use Rattle.sweep_cases.proofs.asked.has_names.Statement.{statement}
+use Rattle.sweep_cases.proofs.asked.has_names.Tie as tie
+use borrow.Author.Needs.{needs}
 use borrow.Author.Tests.{ltb-true}
 use mathlib.Core.Bool.{false≢true}
 use native.Mathlib.Omega.{arith}
-use borrow.Author.Needs.{needs}
-use Rattle.sweep_cases.proofs.asked.has_names.Statement.{statement}
-use Rattle.sweep_cases.proofs.asked.has_names.Tie as tie
 
 cast-if1 : tie.Need-cast-if1
 cast-if1 c = search needs

@@ -1,10 +1,10 @@
 -- Three tests, one after the other; no loop.
 -- What each gives where it passes is what is asked.
-use mathlib.Core.Bool.{false≢true}
-use native.Mathlib.Omega.{arith}
-use borrow.Author.Needs.{needs}
 use Rattle.sweep_cases.proofs.asked.is_asked.Statement.{statement}
 use Rattle.sweep_cases.proofs.asked.is_asked.Tie as tie
+use borrow.Author.Needs.{needs}
+use mathlib.Core.Bool.{false≢true}
+use native.Mathlib.Omega.{arith}
 
 has-limits-requires : tie.Need-has-limits-requires
 has-limits-requires c κs = search needs

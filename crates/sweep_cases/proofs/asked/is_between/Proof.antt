@@ -1,10 +1,10 @@
 -- Two tests; no loop.
 -- Proved by arithmetic.
-use borrow.Author.Tests.{leb-true}
-use native.Mathlib.Omega.{arith}
-use borrow.Author.Needs.{needs}
 use Rattle.sweep_cases.proofs.asked.is_between.Statement.{statement}
 use Rattle.sweep_cases.proofs.asked.is_between.Tie as tie
+use borrow.Author.Needs.{needs}
+use borrow.Author.Tests.{leb-true}
+use native.Mathlib.Omega.{arith}
 
 returns : tie.Need-returns
 returns c = search needs

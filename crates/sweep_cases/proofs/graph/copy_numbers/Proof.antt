@@ -1,13 +1,13 @@
 -- The invariant: there are as many words as before.
 -- The measure is how many numbers are left.
 use Prim.Native.Nat.{_-_}
-use borrow.Author.Tests.{ltb-true}
-use lib.ListN.{length}
-use native.Mathlib.Omega.{arith}
-use mathlib.Core.Path.{_≡_}
-use borrow.Author.Needs.{needs}
 use Rattle.sweep_cases.proofs.graph.copy_numbers.Statement.{statement}
 use Rattle.sweep_cases.proofs.graph.copy_numbers.Tie as tie
+use borrow.Author.Needs.{needs}
+use borrow.Author.Tests.{ltb-true}
+use lib.ListN.{length}
+use mathlib.Core.Path.{_≡_}
+use native.Mathlib.Omega.{arith}
 
 abbrev Inv-loop : tie.InvT-loop
 Inv-loop field words₀ count i₀ words i = length words ≡ length words₀

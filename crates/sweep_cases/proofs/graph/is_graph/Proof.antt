@@ -2,12 +2,12 @@
 -- The measure is how many vertices are left.
 use Prim.Native.Nat.{_-_}
 use Rattle.sweep_cases.proofs.InPlaceLaws.{AllInPlace, all-downward, all-next}
+use Rattle.sweep_cases.proofs.graph.is_graph.Statement.{statement}
+use Rattle.sweep_cases.proofs.graph.is_graph.Tie as tie
+use borrow.Author.Needs.{needs}
 use borrow.Author.Tests.{eqb-true}
 use mathlib.Core.Path.{subst}
 use native.Mathlib.Omega.{arith}
-use borrow.Author.Needs.{needs}
-use Rattle.sweep_cases.proofs.graph.is_graph.Statement.{statement}
-use Rattle.sweep_cases.proofs.graph.is_graph.Tie as tie
 
 abbrev Inv-loop : tie.InvT-loop
 Inv-loop pairs first count v₀ v = AllInPlace first pairs v

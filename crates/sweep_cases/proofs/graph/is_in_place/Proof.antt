@@ -2,12 +2,12 @@
 -- Where the tests pass the words are what the definition says.
 use Prim.Native.Nat.{_*_}
 use Rattle.sweep_cases.proofs.InPlaceLaws.{below-in-place, own-in-place}
+use Rattle.sweep_cases.proofs.graph.is_in_place.Statement.{statement}
+use Rattle.sweep_cases.proofs.graph.is_in_place.Tie as tie
+use borrow.Author.Needs.{needs}
 use borrow.Author.Tests.{eqb-true, ltb-true}
 use mathlib.Core.Path.{_∙_, sym}
 use native.Mathlib.Omega.{arith}
-use borrow.Author.Needs.{needs}
-use Rattle.sweep_cases.proofs.graph.is_in_place.Statement.{statement}
-use Rattle.sweep_cases.proofs.graph.is_in_place.Tie as tie
 
 first-word-requires : tie.Need-first-word-requires
 first-word-requires c κs = search needs

@@ -1,11 +1,11 @@
 -- One line for each end, with its setting; no loop.
 -- The end says which references are required, and the setting is as long as there are inputs.
+use Rattle.sweep_cases.proofs.show.show_end.Statement.{statement}
+use Rattle.sweep_cases.proofs.show.show_end.Tie as tie
+use borrow.Author.Needs.{needs}
 use lib.Seq.{length-take-le}
 use mathlib.Core.Path.{sym}
 use native.Mathlib.Omega.{arith}
-use borrow.Author.Needs.{needs}
-use Rattle.sweep_cases.proofs.show.show_end.Statement.{statement}
-use Rattle.sweep_cases.proofs.show.show_end.Tie as tie
 
 zeros-requires : tie.Need-zeros-requires
 zeros-requires c κs = search needs

@@ -1,11 +1,11 @@
 -- The line is written and printed without its end; no loop.
 -- One need is left: how long the line without its end is.
 use Prim.Native.Nat.{_-_}
-use lib.Seq.{length-take-le}
-use mathlib.Core.Path.{sym}
-use borrow.Author.Needs.{needs}
 use Rattle.sweep_cases.proofs.show.show_line.Statement.{statement}
 use Rattle.sweep_cases.proofs.show.show_line.Tie as tie
+use borrow.Author.Needs.{needs}
+use lib.Seq.{length-take-le}
+use mathlib.Core.Path.{sym}
 
 slice-aggregate-write-line : tie.Need-slice-aggregate-write-line
 slice-aggregate-write-line c = search needs

@@ -1,9 +1,9 @@
 -- Nothing has to hold from turn to turn.
 -- The measure is how many vertices are left.
 use Prim.Native.Nat.{_-_}
-use borrow.Author.Needs.{needs}
 use Rattle.sweep_cases.proofs.show.show_marks.Statement.{statement}
 use Rattle.sweep_cases.proofs.show.show_marks.Tie as tie
+use borrow.Author.Needs.{needs}
 
 abbrev Inv-loop : tie.InvT-loop
 Inv-loop marks count v₀ v = Unit {0}

@@ -1,9 +1,9 @@
 -- Nothing has to hold from turn to turn.
 -- The measure is how many vertices are left.
 use Prim.Native.Nat.{_-_}
-use borrow.Author.Needs.{needs}
 use Rattle.sweep_cases.proofs.show.show_rows.Statement.{statement}
 use Rattle.sweep_cases.proofs.show.show_rows.Tie as tie
+use borrow.Author.Needs.{needs}
 
 abbrev Inv-loop : tie.InvT-loop
 Inv-loop pairs first count v₀ t5 t6 t7 v = Unit {0}

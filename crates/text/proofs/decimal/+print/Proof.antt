@@ -2,9 +2,9 @@
 -- There is no loop: what the call stored, and the last digit after it, is the number stored.
 use Prim.Native.Nat.{ℕ, _<_}
 use Rattle.text.proofs.DecimalSteps.{digit-fits, last-fits, stored-digit, stored-more, tenth-fits}
-use Rattle.text.proofs.decimal.+print.{statement}
 use Rattle.text.proofs.decimal.+print.Lts-print as print-lts
 use Rattle.text.proofs.decimal.+print.Tie.{close}
+use Rattle.text.proofs.decimal.+print.{statement}
 use Rattle.text.proofs.decimal.digit.Reads as digit-reads
 use Rattle.text.proofs.decimal.print.Kinds as print-kinds
 use Rattle.text.proofs.decimal.print.Reads as print
