@@ -15,17 +15,19 @@ use Rattle.sweep_model.specs.Sweep.{conclude, drop, ends, givenBack, look, meet
 use Rattle.sweep_model.specs.declared.Cause.the-variants.{Rows, Steps}
 use Rattle.sweep_model.specs.declared.Cause.{Cause}
 use Rattle.sweep.proofs.DropModel.{Returns, broken-closed, broken-state, due-inside}
-use Rattle.sweep.proofs.LookModel.{LiteralDrawn, has-stage, literal-drawn, look-models, look-refers, looks}
+use Rattle.sweep.proofs.LookModel.{LiteralDrawn, has-stage, literal-drawn, look-models, look-refers}
 use Rattle.sweep.specs.Ending.{Ends, verdictOf}
 use Rattle.sweep.specs.Inputs.{sheets}
-use Rattle.sweep.specs.Look.{Looks, SeenRefers, progressOf, seenBy}
+use Rattle.sweep.specs.Look.{SeenRefers, progressOf, seenBy}
 use Rattle.sweep.specs.Meet.{Board, board}
-use Rattle.sweep.specs.Multiply.{DueOn, Looked, Scene, multiplied}
+use Rattle.sweep.specs.Multiply.{Concludes, DueOn, Looked, Scene, Takes, multiplied, sceneOf}
 use Rattle.sweep.specs.Operands.{ProductAsked, firstOperand, secondOperand}
-use Rattle.sweep.specs.Settle.{Ended, Setting, Settled, onBoard, settledState, stateOn}
+use Rattle.sweep.specs.Settle.{Ended, Setting, Settled, boardBefore, onBoard, settledState, stateBefore, stateOn}
 use Rattle.sweep.specs.Words.{posed}
 use Rattle.sweep.specs.declared.end.End.the-variants.{Undecided}
 use Rattle.sweep.specs.declared.look.Seen.{Seen}
+use Rattle.sweep.specs.declared.multiply.Step.the-variants as step
+use Rattle.sweep.specs.declared.multiply.Step.{Step}
 use Rattle.sweep.specs.declared.task.Task.{Task}
 use Rattle.truth.proofs.Booleans.{cond-ap}
 use Rattle.truth.specs.Parts.{size}
@@ -34,7 +36,7 @@ use lib.Dec.{ltb}
 use lib.ListN.{length, set}
 use mathlib.Core.Bool.{true}
 use mathlib.Core.List.{List}
-use mathlib.Core.Path.{_∙_, _≡_, ap, ap₂, subst, sym}
+use mathlib.Core.Path.{_∙_, _≡_, ap, ap₂, refl, subst, sym}
 use native.Mathlib.Omega.{arith}
 
 -- The board with other rows.
@@ -122,34 +124,6 @@ module _ {t : Task} {x : Scene} {v used steps : ℕ} {b : Board} (d : DueOn t x 
           ran = product-is rows (Done reference u k) (given .0);
         }
 
-    -- The model goes on from the state that is left.
-    concludes : multiplied t x v used steps b ≡ look (posed t (x .functions)) (settledState t (settingOf x b steps k) v u used (onRows b rows))
-    unfolding multiply conclude
-    concludes =
-        let p = posed t (x .functions) in
-        let s = stateOn t b used steps in
-        ap (conclude p v s) (product-is rows (Done reference u k) (given .0))
-        ∙ sym
-        (cond-ap (look p) (ltb (t .size) (size (functionOf p v))) (drop v (bookOf rows u k) s)
-        (meet p v (withBook (bookOf rows u k) s) (twinFrom p (s .stages) v 0 (length (s .stages)))))
-
-    module _ {after : Board} {more : ℕ} (s : (y : Setting) → Ended t y v reference u used (onRows b rows) → Settled t y v u used (onRows b rows) after more) where
-      settled : Settled t (settingOf x b steps k) v u used (onRows b rows) after more
-      settled = s (settingOf x b steps k) product-ended
-
-      pub multiply-looks : Looks t (after .pairs) (after .sheets .diagrams) (after .sheets .stages)
-      multiply-looks = looks (settled .represents)
-
-      pub multiply-looked : {seen : Seen} → seen ≡ seenBy t (after .pairs) (after .sheets .diagrams) (after .sheets .stages) → Looked t x v used steps b after seen more k
-      multiply-looked e =
-          record {
-            reached =
-                concludes ∙ ap (look (posed t (x .functions))) (settled .reached) ∙ sym (look-models (settled .represents))
-                ∙ ap (progressOf (after .sheets .rows) (t .inputs) (stateOn t after more k)) (sym e);
-            represents = settled .represents;
-            refers = subst (SeenRefers (after .sheets .rows) more (t .inputs)) (sym e) (look-refers (settled .represents));
-          }
-
   -- What breaking off needs is there.
   short-back : (rows : List ℕ) (r : Product) → Ran rows r → (Store rows (t .rows) (usedBy r) × (used ≤ usedBy r)) × (v < length (b .sheets .marks))
   short-back rows r m = ((m .grown .store, m .grown .more), omega (arith, inside, d .represents .marks-long))
@@ -200,3 +174,40 @@ module _ {t : Task} {x : Scene} {v used steps : ℕ} {b : Board} (d : DueOn t x 
         rw em
         (broken-ends (record { grown = m .grown; given-back = g; long = long }) k (m .under) (Steps v)
         (ap (conclude (posed t (x .functions)) v (stateOn t b used steps)) (product-is rows (ShortOfSteps u k) m)))
+
+-- A product that is done.
+module _ {t : Task} {x : Setting} {v reference used kept : ℕ} {b : Board} (e : Ended t x v reference used kept b) where
+  -- The model goes on from the state that is left.
+  concludes : multiplied t (sceneOf x) v kept (x .steps) (boardBefore x b) ≡ look (posed t (x .functions)) (settledState t x v used kept b)
+  unfolding multiply conclude
+  concludes =
+      let p = posed t (x .functions) in
+      let s = stateBefore t x b kept in
+      let ended = bookOf (b .sheets .rows) used (x .taken) in
+      ap (conclude p v s) (e .ran)
+      ∙ sym
+      (cond-ap (look p) (ltb (t .size) (size (functionOf p v))) (drop v ended s)
+      (meet p v (withBook ended s) (twinFrom p (s .stages) v 0 (length (s .stages)))))
+
+  pub conclude-looked :
+      {after : Board} {more steps : ℕ} {seen : Seen} → Settled t x v used kept b after more
+      → seen ≡ seenBy t (after .pairs) (after .sheets .diagrams) (after .sheets .stages) → x .taken ≡ steps
+      → Looked t (sceneOf x) v kept (x .steps) (boardBefore x b) after seen more steps
+  conclude-looked {after} {more} {steps} {seen} s es et =
+      subst (λ (k : ℕ). Looked t (sceneOf x) v kept (x .steps) (boardBefore x b) after seen more k) et
+      (record {
+        reached =
+            concludes ∙ ap (look (posed t (x .functions))) (s .reached) ∙ sym (look-models (s .represents))
+            ∙ ap (progressOf (after .sheets .rows) (t .inputs) (stateOn t after more (x .taken))) (sym es);
+        represents = s .represents;
+        refers = subst (SeenRefers (after .sheets .rows) more (t .inputs)) (sym es) (look-refers (s .represents));
+      })
+
+-- What holds of the end of a product that is done holds of the whole, where the product ended so in each scene.
+pub multiply-concludes :
+    (t : Task) (v steps : ℕ) (b : Board) {reference used more taken : ℕ} {rows : List ℕ}
+    → ((x : Scene) → DueOn t x v used steps b → Ended t (settingOf x b steps taken) v reference more used (onRows b rows))
+    → (after : Board) (r : Step) → Concludes t v reference more used taken (onRows b rows) after r → Takes t v used steps b after r
+multiply-concludes t v steps b {taken = taken} ended after (step.Looked seen left k) c = λ x d. c (settingOf x b steps taken) (ended x d) refl
+multiply-concludes t v steps b ended after (step.Rows left k) c = absurd c
+multiply-concludes t v steps b ended after (step.Steps left k) c = absurd c

@@ -7,7 +7,7 @@ use Rattle.sweep.specs.Ending.{Ends}
 use Rattle.sweep.specs.Look.{SeenRefers, progressOf}
 use Rattle.sweep.specs.Meet.{Board}
 use Rattle.sweep.specs.Represents.{Represents}
-use Rattle.sweep.specs.Settle.{onBoard, stateOn}
+use Rattle.sweep.specs.Settle.{Ended, Setting, boardBefore, onBoard, stateOn}
 use Rattle.sweep.specs.Words.{posed}
 use Rattle.sweep.specs.declared.end.End.the-variants.{Undecided}
 use Rattle.sweep.specs.declared.look.Seen.{Seen}
@@ -42,6 +42,17 @@ pub record Looked (t : Task) (x : Scene) (v used steps : ℕ) (b after : Board) 
   pub reached : multiplied t x v used steps b ≡ progressOf (after .sheets .rows) (t .inputs) (stateOn t after more taken) seen
   pub represents : Represents t (x .functions) (x .entry) (onBoard after more taken)
   pub refers : SeenRefers (after .sheets .rows) more (t .inputs) seen
+
+-- The scene that a product was taken in.
+abbrev pub sceneOf : Setting → Scene
+sceneOf x = record { functions = x .functions; entry = x .entry; turns = x .turns }
+
+-- A product that is done after so many steps: the two literals are looked at, in each setting in which it ended so.
+abbrev pub Concludes : Task → ℕ → ℕ → ℕ → ℕ → ℕ → Board → Board → Step → Type 0
+Concludes t v reference used kept steps b after (step.Looked seen more taken) =
+    (x : Setting) → Ended t x v reference used kept b → x .taken ≡ steps → Looked t (sceneOf x) v kept (x .steps) (boardBefore x b) after seen more taken
+Concludes t v reference used kept steps b after (step.Rows more taken) = ⊥
+Concludes t v reference used kept steps b after (step.Steps more taken) = ⊥
 
 abbrev pub Takes : Task → ℕ → ℕ → ℕ → Board → Board → Step → Type 0
 Takes t v used steps b after (step.Looked seen more taken) = (x : Scene) → DueOn t x v used steps b → Looked t x v used steps b after seen more taken

@@ -7,7 +7,7 @@ use Rattle.product_model.specs.Run.{done}
 use Rattle.sweep_model.proofs.Steady.{Due, productOf}
 use Rattle.sweep_model.specs.State.{State, functionOf, withBook}
 use Rattle.sweep_model.specs.Sweep.{drop, meet, twinFrom}
-use Rattle.sweep.specs.Inputs.{sheets}
+use Rattle.sweep.specs.Inputs.{onRows, sheets}
 use Rattle.sweep.specs.Meet.{Board, board}
 use Rattle.sweep.specs.Represents.{Represents}
 use Rattle.sweep.specs.Words.{Words, posed, stateOf, words}
@@ -39,9 +39,12 @@ pub record Setting : Type 0 where
   pub turns : ℕ
   pub taken : ℕ
 
--- The words before the product, by those after it.
+-- The board and the words before the product, by those after it.
+abbrev pub boardBefore : Setting → Board → Board
+boardBefore x b = board (b .pairs) (onRows (x .rows) (b .sheets))
+
 abbrev pub wordsBefore : Setting → Board → ℕ → Words
-wordsBefore x b kept = words (b .pairs) (b .sheets .diagrams) (b .sheets .stages) (x .rows) (b .sheets .marks) kept (x .steps)
+wordsBefore x b kept = onBoard (boardBefore x b) kept (x .steps)
 
 abbrev pub stateBefore : Task → Setting → Board → ℕ → State
 stateBefore t x b kept = stateOf (t .count) (wordsBefore x b kept)

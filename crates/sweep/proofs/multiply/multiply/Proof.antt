@@ -1,8 +1,10 @@
 -- The product's answer decides; no loop.
 -- One law for each answer, in every scene.
-use Rattle.sweep.proofs.MultiplyModel.{lacking-rows, lacking-steps, multiply-lacks-rows, multiply-lacks-steps, multiply-looked, multiply-looks, product-asked, product-ended}
+use Rattle.sweep.proofs.MultiplyModel.{lacking-rows, lacking-steps, multiply-concludes, multiply-lacks-rows, multiply-lacks-steps, product-asked, product-ended}
 use Rattle.sweep.proofs.multiply.multiply.Statement.{statement}
 use Rattle.sweep.proofs.multiply.multiply.Tie as tie
+use Rattle.sweep.specs.Inputs.{sheets}
+use Rattle.sweep.specs.Meet.{board}
 use borrow.Author.Needs.{needs}
 use lib.ListN.{length}
 use mathlib.Core.Path.{_≡_}
@@ -13,14 +15,10 @@ take-product-requires c κs = product-asked (c .before .before .before .before .
 enum-known-product : tie.Need-enum-known-product
 enum-known-product c = search needs
 
-settle-requires : tie.Need-settle-requires
-settle-requires c κs =
+conclude-requires : tie.Need-conclude-requires
+conclude-requires c κs =
     let start = c .before .before .before .before .before .before .before .before .before .before .before .before .before .before .before .before .before .before .before .before .before in
     (record { setting = _; ended = product-ended (start .pre .0 .on) (c .before .before .before .before .before .before .before .before .before .before .before .take-product .last .1 .1 .0) (c .before .before .before .before .before .before .before .product .given .1) (c .before .before .before .before .before .before .before .before .before .before .before .take-product .ensures) (search needs) }, start .pre .1)
-
-look-requires : tie.Need-look-requires
-look-requires c κs =
-    multiply-looks (c .before .before .before .before .before .before .before .before .before .before .before .before .before .before .before .before .before .before .before .before .before .before .before .before .before .before .before .before .before .before .before .before .before .before .before .before .before .pre .0 .on) (c .before .before .before .before .before .before .before .before .before .before .before .before .before .before .before .before .before .before .before .before .before .before .before .before .before .before .before .take-product .last .1 .1 .0) (c .before .before .before .before .before .before .before .before .before .before .before .before .before .before .before .before .before .before .before .before .before .before .before .product .given .1) (c .before .before .before .before .before .before .before .before .before .before .before .before .before .before .before .before .before .before .before .before .before .before .before .before .before .before .before .take-product .ensures) (search needs) (c .before .before .before .before .before .before .before .before .before .before .before .before .before .before .before .settle .ensures)
 
 enum-known-product-2 : tie.Need-enum-known-product-2
 enum-known-product-2 c = search needs
@@ -54,9 +52,15 @@ same-length-6 c = search needs
 
 returns : tie.Need-returns
 returns c =
-    let long : length (c .before .before .before .before .before .before .before .before .before .before .before .before .before .before .before .before .before .before .before .before .before .before .before .before .before .before .before .before .take-product .last .1 .1 .0) ≡ length (c .before .before .before .before .before .before .before .before .before .before .before .before .before .before .before .before .before .before .before .before .before .before .before .before .before .before .before .before .before .before .before .before .before .before .before .before .before .before .args .rows .now) = search needs in
-    λ x d.
-    multiply-looked d (c .before .before .before .before .before .before .before .before .before .before .before .before .before .before .before .before .before .before .before .before .before .before .before .before .before .before .before .before .take-product .last .1 .1 .0) (c .before .before .before .before .before .before .before .before .before .before .before .before .before .before .before .before .before .before .before .before .before .before .before .before .product .given .1) (c .before .before .before .before .before .before .before .before .before .before .before .before .before .before .before .before .before .before .before .before .before .before .before .before .before .before .before .before .take-product .ensures) long (c .before .before .before .before .before .before .before .before .before .before .before .before .before .before .before .before .settle .ensures) (c .look .ensures)
+    let start = c .before .before .before .before .before .before .before .before .before .before .before .before .before .before .before .before .before .before .before .before .before .before .before .before .before .before .before .before .before .before .before .before .before .before .args in
+    let taken = c .before .before .before .before .before .before .before .before .before .before .before .before .before .before .before .before .before .before .before .before .before .before .before .before .take-product in
+    let concluded = c .before .before .before .before .before .before .before .before .before .before .before .before .conclude in
+    let long : length (taken .last .1 .1 .0) ≡ length (start .rows .now) = search needs in
+    multiply-concludes (start .task) (start .v) (start .steps)
+    (board (start .pairs .now) (sheets (start .diagrams .now) (start .stages .now) (start .rows .now) (start .marks .now)))
+    (λ x d. product-ended d (taken .last .1 .1 .0) (c .before .before .before .before .before .before .before .before .before .before .before .before .before .before .before .before .before .before .before .before .product .given .1) (taken .ensures) long)
+    (board (concluded .last .0) (sheets (concluded .last .1 .1 .0) (concluded .last .1 .1 .1 .0) (concluded .last .1 .1 .1 .1 .0) (concluded .last .1 .1 .1 .1 .1 .0)))
+    (concluded .result) (concluded .ensures)
 
 same-length-7 : tie.Need-same-length-7
 same-length-7 c = search needs
@@ -96,8 +100,7 @@ multiply-spec =
     (tie.spec
     take-product-requires
     enum-known-product
-    settle-requires
-    look-requires
+    conclude-requires
     enum-known-product-2
     break-off-requires
     enum-known-product-3
