@@ -11,7 +11,7 @@ use Rattle.product_model.proofs.Cases.{count-room}
 use Rattle.product_model.proofs.Equations.{run-both, run-terminal}
 use Rattle.product_model.specs.Run.{Book, Outcome, _andThen_, addRow, run}
 use Rattle.product.proofs.RunLaws.{conj-lift, row-full, row-made, run-lift, spent}
-use Rattle.product.specs.Product.{Ask, Denotes, Multiplied, bookOf, outcomeOf}
+use Rattle.product.specs.Product.{AddsRow, Ask, Denotes, Multiplied, Multiplies, bookOf, outcomeOf}
 use Rattle.product.specs.declared.Product.the-variants.{Done, ShortOfRows, ShortOfSteps}
 use Rattle.product.specs.declared.Product.{Product}
 use Rattle.truth.specs.Parts.{depends?}
@@ -209,3 +209,8 @@ module _ {s : List ℕ} {limit used f g left steps most : ℕ} {h : Halves} (B :
               under = O .0 .under;
               ran = after-one ∙ row-full M steps1;
             }
+
+      -- What the row gives, by its answer.
+      pub row-added : (t : List ℕ) (answer : Product) → AddsRow s1 t limit used1 (h .level) low high steps1 answer → Multiplies s t limit used f g left steps most answer
+      row-added t (Done r u k) (M, e) = rw e (row-done M)
+      row-added t (ShortOfRows u k) (M, eu, ek) = rw (eu, ek) (row-short M)

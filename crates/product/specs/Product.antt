@@ -3,7 +3,7 @@ use Prim.Native.Nat.{_<_, _^_, _≤_, ℕ}
 use Rattle.bdd.specs.Diagram.{Reference, denote, storeOf}
 use Rattle.bdd.specs.Rows.{MARK}
 use Rattle.bdd.specs.Store.{Store}
-use Rattle.bdd.specs.Unique.{Grown}
+use Rattle.bdd.specs.Unique.{Grown, MadeAt, MadeFull}
 use Rattle.product_model.specs.Run.{Book, Outcome, done, run, shortOfRows, shortOfSteps}
 use Rattle.product.specs.declared.Product.the-variants.{Done, ShortOfRows, ShortOfSteps}
 use Rattle.product.specs.declared.Product.{Product}
@@ -58,3 +58,9 @@ Multiplies s t limit used f g left steps most (Done r u k) =
     Multiplied s t limit used f g left steps most (Done r u k) × Denotes s t f g left r u
 Multiplies s t limit used f g left steps most (ShortOfRows u k) = Multiplied s t limit used f g left steps most (ShortOfRows u k)
 Multiplies s t limit used f g left steps most (ShortOfSteps u k) = Multiplied s t limit used f g left steps most (ShortOfSteps u k)
+
+-- What the row of two results gives: `make`'s reference, or no row left and the rows as they were; the steps stay.
+abbrev pub AddsRow : List ℕ → List ℕ → ℕ → ℕ → ℕ → ℕ → ℕ → ℕ → Product → Type 0
+AddsRow s t limit used level low high steps (Done r u k) = MadeAt s t limit used level low high r u × (k ≡ steps)
+AddsRow s t limit used level low high steps (ShortOfRows u k) = MadeFull s t limit used level low high × (u ≡ used) × (k ≡ steps)
+AddsRow s t limit used level low high steps (ShortOfSteps u k) = ⊥

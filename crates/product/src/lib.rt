@@ -1,7 +1,11 @@
 // The product: the recursive AND of two diagrams, counted.
 use bdd::references::Ending;
 use bdd::unique::Made;
-ghost use Rattle.product.specs.Product.{Ask, Multiplies};
+ghost use Prim.Native.Nat.{_-_, _<_, _≤_};
+ghost use Rattle.bdd.specs.Diagram.{Reference};
+ghost use Rattle.bdd.specs.Rows.{MARK};
+ghost use Rattle.bdd.specs.Store.{Store};
+ghost use Rattle.product.specs.Product.{AddsRow, Ask, Multiplies};
 
 // How a product ended: its reference, or a limit that it passed; with the rows then used and the steps taken.
 pub enum Product {
@@ -61,25 +65,42 @@ pub fn multiply(
                     reference: high,
                     used: used1,
                     steps: steps1,
-                } => {
-                    let made = bdd::unique::make(rows, used1, limit, level, low, high);
-                    match made {
-                        Made::At { reference, used } => Product::Done {
-                            reference,
-                            used,
-                            steps: steps1,
-                        },
-                        Made::Full => Product::ShortOfRows {
-                            used: used1,
-                            steps: steps1,
-                        },
-                    }
-                }
+                } => add_row(rows, used1, limit, level, low, high, steps1),
                 Product::ShortOfRows { used, steps } => Product::ShortOfRows { used, steps },
                 Product::ShortOfSteps { used, steps } => Product::ShortOfSteps { used, steps },
             }
         }
         Product::ShortOfRows { used, steps } => Product::ShortOfRows { used, steps },
         Product::ShortOfSteps { used, steps } => Product::ShortOfSteps { used, steps },
+    }
+}
+
+// The row of the two results at their level: the product is done, or short of rows.
+fn add_row(
+    rows: &mut [u32],
+    used: usize,
+    limit: usize,
+    level: usize,
+    low: usize,
+    high: usize,
+    steps: usize,
+) -> Product
+    requires store { ⌜ Store (now rows) limit used ⌝ }
+    requires level { ⌜ (1 ≤ level) × (level < MARK) ⌝ }
+    requires low { ⌜ Reference (now rows) used (level - 1) low ⌝ }
+    requires high { ⌜ Reference (now rows) used (level - 1) high ⌝ }
+    ensures { λ r. ⌜ AddsRow (now (rows .entry)) (now (rows .exit)) limit used level low high steps r ⌝ }
+{
+    let made = bdd::unique::make(rows, used, limit, level, low, high);
+    match made {
+        Made::At {
+            reference,
+            used: more,
+        } => Product::Done {
+            reference,
+            used: more,
+            steps,
+        },
+        Made::Full => Product::ShortOfRows { used, steps },
     }
 }

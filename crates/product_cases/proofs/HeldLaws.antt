@@ -1,5 +1,5 @@
 -- References stay good while rows are added, given back, and followed.
-use Prim.Native.Nat.{_%_, _*_, _-_, _/_, _≤_, suc, zero, ℕ}
+use Prim.Native.Nat.{_%_, _*_, _-_, _/_, _<_, _≤_, suc, zero, ℕ}
 use Rattle.bdd.proofs.DiagramLaws.{cofactor-below, constant-reference, frame-reference}
 use Rattle.bdd.proofs.MakeLaws.{grown-reference}
 use Rattle.bdd.proofs.ReferenceLaws.{edge-row}
@@ -7,7 +7,8 @@ use Rattle.bdd.specs.Diagram.{Reference, cofactor, edge}
 use Rattle.bdd.specs.Store.{Store}
 use Rattle.bdd.specs.Unique.{GivenBack, Grown}
 use Rattle.product.proofs.Laws.{back}
-use Rattle.product_cases.specs.Held.{AllWalk, Held, Walks}
+use Rattle.product_cases.specs.Held.{AllWalk, Held, Turned, Walks}
+use Rattle.product_cases.specs.declared.diagram.Turn.{Turn}
 use lib.ListN.{List·getD-eq-default, getD, length, replicate, set}
 use mathlib.Core.Bool.{Bool}
 use mathlib.Core.List.{List, [], _∷_}
@@ -46,6 +47,20 @@ held-put {references = references} {r = r} H G R v =
 -- Rows given back.
 pub held-back : {s t w references : List ℕ} {limit n u m : ℕ} → Held s references limit n m → Grown s t limit n u → GivenBack t w limit u n → Held w references limit n m
 held-back {s} {w = w} {n = n} H G B = record { store = B .store; each = λ j. frame-reference s n (H .store .canonical) w (back G B .agree) (H .each j) }
+
+-- A product that was short, with its rows given back.
+pub broken-off : {s t w references : List ℕ} {limit n u m : ℕ} → Held s references limit n m → Grown s t limit n u → GivenBack t w limit u n
+    → {v stop k most : ℕ} → v < stop → k ≤ most → (turn : Turn) → (turn .next ≡ v) × (turn .stop ≡ v) × (turn .used ≡ n) × (turn .steps ≡ k)
+    → Turned w references limit m most v stop turn
+broken-off H G B before under turn e =
+    record {
+      held = rw (e .2) (held-back H G B);
+      under = rw (e .3) under;
+      onward = omega (arith, e);
+      within = omega (arith, e);
+      bound = omega (arith, e);
+      less = omega (arith, e);
+    }
 
 -- References followed.
 pub held-walks : {rows references : List ℕ} {limit used inputs : ℕ} → Held rows references limit used inputs → AllWalk rows references inputs

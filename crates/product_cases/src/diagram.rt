@@ -6,6 +6,8 @@ use bdd::unique::Made;
 use product::Product;
 ghost use Prim.Native.Nat.{_%_, _/_, _<_, _^_, _≤_};
 ghost use Rattle.bdd.specs.Diagram.{edge};
+ghost use Rattle.bdd.specs.Store.{Store};
+ghost use Rattle.bdd.specs.Unique.{GivenBack};
 ghost use Rattle.product_cases.specs.Held.{Held, Turned};
 ghost use lib.ListN.{getD};
 ghost use mathlib.Core.Path.{_≡_};
@@ -74,6 +76,31 @@ fn reference_of(references: &[usize; VERTICES], p: usize) -> usize
     edge_to(references[v], p)
 }
 
+// A product for vertex v was short: its new rows are given back, and the circuit stops.
+fn break_off(
+    rows: &mut [u32],
+    used: usize,
+    limit: usize,
+    kept: usize,
+    v: usize,
+    steps: usize,
+    end: usize,
+) -> Turn
+    requires store { ⌜ Store (now rows) limit used ⌝ }
+    requires fewer { ⌜ kept ≤ used ⌝ }
+    ensures back { λ _. ⌜ GivenBack (now (rows .entry)) (now (rows .exit)) limit used kept ⌝ }
+    ensures turn { λ t. ⌜ (t .next ≡ v) × (t .stop ≡ v) × (t .used ≡ kept) × (t .steps ≡ steps) ⌝ }
+{
+    bdd::unique::give_back(rows, used, limit, kept);
+    Turn {
+        next: v,
+        stop: v,
+        used: kept,
+        steps,
+        end,
+    }
+}
+
 // The product of two literals for vertex v. A shortfall gives its new rows back, and is the end.
 fn and_of(
     rows: &mut [u32],
@@ -113,29 +140,11 @@ fn and_of(
         Product::ShortOfRows {
             used: more,
             steps: taken,
-        } => {
-            bdd::unique::give_back(rows, more, limit, used);
-            Turn {
-                next: v,
-                stop: v,
-                used,
-                steps: taken,
-                end: 1,
-            }
-        }
+        } => break_off(rows, more, limit, used, v, taken, 1),
         Product::ShortOfSteps {
             used: more,
             steps: taken,
-        } => {
-            bdd::unique::give_back(rows, more, limit, used);
-            Turn {
-                next: v,
-                stop: v,
-                used,
-                steps: taken,
-                end: 2,
-            }
-        }
+        } => break_off(rows, more, limit, used, v, taken, 2),
     }
 }
 

@@ -14,7 +14,20 @@ fn both(a: usize, b: usize) -> usize {
     if a == 0 { 0 } else { b }
 }
 
-// The values of the inputs, digit by digit, and of the ANDs up to n.
+// The values of the inputs, digit by digit.
+fn set_inputs(values: &mut [usize; VERTICES], inputs: usize, setting: usize)
+    requires { ⌜ inputs ≤ 10 ⌝ }
+{
+    let mut digits = setting;
+    let mut i = 1;
+    while i <= inputs {
+        values[i] = digits % 2;
+        digits /= 2;
+        i += 1;
+    }
+}
+
+// The values of the inputs, then of the ANDs up to n.
 fn simulate(
     values: &mut [usize; VERTICES],
     inputs: usize,
@@ -24,13 +37,8 @@ fn simulate(
 )
     requires { ⌜ (inputs ≤ 10) × (n ≤ 128) ⌝ }
 {
-    let mut digits = setting;
-    let mut i = 1;
-    while i <= inputs {
-        values[i] = digits % 2;
-        digits /= 2;
-        i += 1;
-    }
+    set_inputs(values, inputs, setting);
+    let mut i = inputs + 1;
     while i < n {
         values[i] = both(
             literal(values, words[i * 2]),

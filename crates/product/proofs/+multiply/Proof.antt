@@ -3,11 +3,11 @@
 use Prim.Native.Nat.{_+_, _-_, _<_, ℕ}
 use Rattle.bdd.proofs.references.ends.Reads as ends-reads
 use Rattle.bdd.proofs.references.split_at_top.Reads as split-at-top-reads
-use Rattle.bdd.proofs.unique.make.Reads as make-reads
 use Rattle.product.proofs.+multiply.Lts-multiply as multiply-lts
 use Rattle.product.proofs.+multiply.Tie.{close}
 use Rattle.product.proofs.+multiply.{statement}
-use Rattle.product.proofs.ProductLaws.{Split, ask-one, ask-row, ask-zero, at-top, ends-now, falls, one-short, row-done, row-short, rows, short-now, steps, zero-short}
+use Rattle.product.proofs.ProductLaws.{Split, ask-one, ask-row, ask-zero, at-top, ends-now, falls, one-short, row-added, rows, short-now, steps, zero-short}
+use Rattle.product.proofs.add_row.Reads as add-row-reads
 use Rattle.product.proofs.multiply.Kinds as multiply-kinds
 use Rattle.product.proofs.multiply.Reads as multiply
 use Rattle.product.specs.Product.{Multiplies}
@@ -27,7 +27,7 @@ abbrev multiply-below : ℕ → In 1 multiply-kinds.ps
 multiply-below t = cycle.and 1 multiply-kinds.ps (cycle.falls 1 multiply-kinds.ps _<_ μ-multiply t) multiply.Pre
 
 abbrev callees : ℕ → multiply-lts.Claims
-callees t = (ends-reads.Asked, ends-reads.Learnt, split-at-top-reads.Asked, split-at-top-reads.Learnt, multiply-below t, multiply.Post, make-reads.Asked, make-reads.Learnt)
+callees t = (ends-reads.Asked, ends-reads.Learnt, split-at-top-reads.Asked, split-at-top-reads.Learnt, multiply-below t, multiply.Post, add-row-reads.Asked, add-row-reads.Learnt)
 
 -- The references are split.
 split-at : (t : ℕ) (c : multiply-lts.After-split-at-top (callees t) (multiply-at t) multiply.Post)
@@ -70,8 +70,8 @@ multiply-ends-requires t c κs = search needs
 multiply-enum-known-ending : (t : ℕ) → multiply-lts.Need-enum-known-ending (callees t) (multiply-at t) multiply.Post
 multiply-enum-known-ending t c = search needs
 
-multiply-add-t33 : (t : ℕ) → multiply-lts.Need-add-t33 (callees t) (multiply-at t) multiply.Post
-multiply-add-t33 t c =
+multiply-add-t30 : (t : ℕ) → multiply-lts.Need-add-t30 (callees t) (multiply-at t) multiply.Post
+multiply-add-t30 t c =
     let K = c .before .before .before .before .before .before .pre .1 in
     omega (arith, K .under, K .small)
 
@@ -116,17 +116,11 @@ multiply-multiply-requires-2 t c κs =
 multiply-enum-known-one : (t : ℕ) → multiply-lts.Need-enum-known-one (callees t) (multiply-at t) multiply.Post
 multiply-enum-known-one t c = search needs
 
-multiply-make-requires : (t : ℕ) → multiply-lts.Need-make-requires (callees t) (multiply-at t) multiply.Post
-multiply-make-requires t c κs =
+multiply-add-row-requires : (t : ℕ) → multiply-lts.Need-add-row-requires (callees t) (multiply-at t) multiply.Post
+multiply-add-row-requires t c κs =
     let o = c .before .before in
     let Q = ask-row (split-at t (o .before .before .before .before .before .before .before .before .before .before .before .before .before)) (zero-at t (o .before .before .before .before .before .before .before)) (one-at t o) in
     (Q .store, ((Q .deep, Q .small), (Q .low, Q .high)))
-
-multiply-enum-known-made : (t : ℕ) → multiply-lts.Need-enum-known-made (callees t) (multiply-at t) multiply.Post
-multiply-enum-known-made t c = search needs
-
-multiply-enum-told-2 : (t : ℕ) → multiply-lts.Need-enum-told-2 (callees t) (multiply-at t) multiply.Post
-multiply-enum-told-2 t c = search needs
 
 multiply-enum-known-one-2 : (t : ℕ) → multiply-lts.Need-enum-known-one-2 (callees t) (multiply-at t) multiply.Post
 multiply-enum-known-one-2 t c = search needs
@@ -145,48 +139,39 @@ multiply-same-length t c = search needs
 
 multiply-returns-3 : (t : ℕ) → multiply-lts.Need-returns-3 (callees t) (multiply-at t) multiply.Post
 multiply-returns-3 t c =
-    let o = c .before .before .before .before .before .before .before .before in
-    row-done (split-at t (o .before .before .before .before .before .before .before .before .before .before .before .before .before)) (zero-at t (o .before .before .before .before .before .before .before)) (one-at t o)
-    (rw (c .before .made .given .1) at (c .before .before .before .before .before .make .ensures))
+    let o = c .before .before .before .before .before in
+    row-added (split-at t (o .before .before .before .before .before .before .before .before .before .before .before .before .before)) (zero-at t (o .before .before .before .before .before .before .before)) (one-at t o)
+    (c .before .before .add-row .last .0) (c .before .before .add-row .result) (c .before .before .add-row .ensures)
 
 multiply-same-length-2 : (t : ℕ) → multiply-lts.Need-same-length-2 (callees t) (multiply-at t) multiply.Post
 multiply-same-length-2 t c = search needs
 
 multiply-returns-4 : (t : ℕ) → multiply-lts.Need-returns-4 (callees t) (multiply-at t) multiply.Post
 multiply-returns-4 t c =
-    let o = c .before .before .before .before .before .before .before in
-    row-short (split-at t (o .before .before .before .before .before .before .before .before .before .before .before .before .before)) (zero-at t (o .before .before .before .before .before .before .before)) (one-at t o)
-    (rw (c .enum-told2 .given .1) at (c .before .before .before .before .make .ensures))
+    one-short (split-at t (c .before .before .before .before .before .before .before .before .before .before .before .before .before .before)) (zero-at t (c .before .before .before .before .before .before .before .before)) rows
+    (rw (c .before .one2 .given .1) at (c .before .before .before .before .before .multiply2 .ensures))
 
 multiply-same-length-3 : (t : ℕ) → multiply-lts.Need-same-length-3 (callees t) (multiply-at t) multiply.Post
 multiply-same-length-3 t c = search needs
 
 multiply-returns-5 : (t : ℕ) → multiply-lts.Need-returns-5 (callees t) (multiply-at t) multiply.Post
 multiply-returns-5 t c =
-    one-short (split-at t (c .before .before .before .before .before .before .before .before .before .before .before .before .before .before)) (zero-at t (c .before .before .before .before .before .before .before .before)) rows
-    (rw (c .before .one2 .given .1) at (c .before .before .before .before .before .multiply2 .ensures))
+    one-short (split-at t (c .before .before .before .before .before .before .before .before .before .before .before .before .before .before)) (zero-at t (c .before .before .before .before .before .before .before .before)) steps
+    (rw (c .before .one3 .given .1) at (c .before .before .before .before .before .multiply2 .ensures))
 
 multiply-same-length-4 : (t : ℕ) → multiply-lts.Need-same-length-4 (callees t) (multiply-at t) multiply.Post
 multiply-same-length-4 t c = search needs
 
 multiply-returns-6 : (t : ℕ) → multiply-lts.Need-returns-6 (callees t) (multiply-at t) multiply.Post
 multiply-returns-6 t c =
-    one-short (split-at t (c .before .before .before .before .before .before .before .before .before .before .before .before .before .before)) (zero-at t (c .before .before .before .before .before .before .before .before)) steps
-    (rw (c .before .one3 .given .1) at (c .before .before .before .before .before .multiply2 .ensures))
+    zero-short (split-at t (c .before .before .before .before .before .before .before)) rows
+    (rw (c .before .zero2 .given .1) at (c .before .before .before .before .before .multiply .ensures))
 
 multiply-same-length-5 : (t : ℕ) → multiply-lts.Need-same-length-5 (callees t) (multiply-at t) multiply.Post
 multiply-same-length-5 t c = search needs
 
 multiply-returns-7 : (t : ℕ) → multiply-lts.Need-returns-7 (callees t) (multiply-at t) multiply.Post
 multiply-returns-7 t c =
-    zero-short (split-at t (c .before .before .before .before .before .before .before)) rows
-    (rw (c .before .zero2 .given .1) at (c .before .before .before .before .before .multiply .ensures))
-
-multiply-same-length-6 : (t : ℕ) → multiply-lts.Need-same-length-6 (callees t) (multiply-at t) multiply.Post
-multiply-same-length-6 t c = search needs
-
-multiply-returns-8 : (t : ℕ) → multiply-lts.Need-returns-8 (callees t) (multiply-at t) multiply.Post
-multiply-returns-8 t c =
     zero-short (split-at t (c .before .before .before .before .before .before .before)) steps
     (rw (c .before .zero3 .given .1) at (c .before .before .before .before .before .multiply .ensures))
 
@@ -194,4 +179,4 @@ pub +multiply-spec : {M : Type 1} → statement M
 +multiply-spec =
     close μ-multiply
     (λ t.
-    multiply-lts.spec (callees t) (multiply-at t) multiply.Post (multiply-returns t) (multiply-ends-requires t) (multiply-enum-known-ending t) (multiply-add-t33 t) (multiply-returns-2 t) (multiply-enum-told t) (multiply-split-at-top-requires t) (multiply-sub-multiply t) (multiply-add-multiply t) (multiply-multiply-requires t) (multiply-enum-known-zero t) (multiply-sub-multiply-2 t) (multiply-multiply-requires-2 t) (multiply-enum-known-one t) (multiply-make-requires t) (multiply-enum-known-made t) (multiply-enum-told-2 t) (multiply-enum-known-one-2 t) (multiply-enum-known-one-3 t) (multiply-enum-known-zero-2 t) (multiply-enum-known-zero-3 t) (multiply-same-length t) (multiply-returns-3 t) (multiply-same-length-2 t) (multiply-returns-4 t) (multiply-same-length-3 t) (multiply-returns-5 t) (multiply-same-length-4 t) (multiply-returns-6 t) (multiply-same-length-5 t) (multiply-returns-7 t) (multiply-same-length-6 t) (multiply-returns-8 t))
+    multiply-lts.spec (callees t) (multiply-at t) multiply.Post (multiply-returns t) (multiply-ends-requires t) (multiply-enum-known-ending t) (multiply-add-t30 t) (multiply-returns-2 t) (multiply-enum-told t) (multiply-split-at-top-requires t) (multiply-sub-multiply t) (multiply-add-multiply t) (multiply-multiply-requires t) (multiply-enum-known-zero t) (multiply-sub-multiply-2 t) (multiply-multiply-requires-2 t) (multiply-enum-known-one t) (multiply-add-row-requires t) (multiply-enum-known-one-2 t) (multiply-enum-known-one-3 t) (multiply-enum-known-zero-2 t) (multiply-enum-known-zero-3 t) (multiply-same-length t) (multiply-returns-3 t) (multiply-same-length-2 t) (multiply-returns-4 t) (multiply-same-length-3 t) (multiply-returns-5 t) (multiply-same-length-4 t) (multiply-returns-6 t) (multiply-same-length-5 t) (multiply-returns-7 t))

@@ -1,6 +1,6 @@
--- A product that is done gives a new reference; one that is short gives back the rows it added.
+-- A product that is done gives a new reference; one that is short has the rows it added given back.
 -- No loop.
-use Rattle.product_cases.proofs.HeldLaws.{edge-held, held-back, held-put}
+use Rattle.product_cases.proofs.HeldLaws.{broken-off, edge-held, held-put}
 use Rattle.product_cases.proofs.diagram.and_of.Statement.{statement}
 use Rattle.product_cases.proofs.diagram.and_of.Tie as tie
 use borrow.Author.Needs.{needs}
@@ -39,16 +39,16 @@ add-t27 c = search needs
 enum-known-answer-2 : tie.Need-enum-known-answer-2
 enum-known-answer-2 c = search needs
 
-give-back-requires : tie.Need-give-back-requires
-give-back-requires c κs =
+break-off-requires : tie.Need-break-off-requires
+break-off-requires c κs =
     let M = rw (c .before .before .answer2 .given .1) at (c .before .before .before .before .before .before .multiply .ensures) in
     (M .grown .store, M .grown .more)
 
 enum-known-answer-3 : tie.Need-enum-known-answer-3
 enum-known-answer-3 c = search needs
 
-give-back-requires-2 : tie.Need-give-back-requires-2
-give-back-requires-2 c κs =
+break-off-requires-2 : tie.Need-break-off-requires-2
+break-off-requires-2 c κs =
     let M = rw (c .before .before .answer3 .given .1) at (c .before .before .before .before .before .before .multiply .ensures) in
     (M .grown .store, M .grown .more)
 
@@ -75,14 +75,8 @@ returns-2 : tie.Need-returns-2
 returns-2 c =
     let st = c .before .before .before .before .before .before .before .before .before .before .before .before .before .before .before .before in
     let M = rw (c .before .before .before .before .before .answer2 .given .1) at (c .before .before .before .before .before .before .before .before .before .multiply .ensures) in
-    record {
-      held = held-back (st .pre .0) (M .grown) (c .before .before .give-back .ensures);
-      under = M .under;
-      onward = omega arith;
-      within = omega arith;
-      bound = omega (arith, st .pre .1);
-      less = omega (arith, st .pre .1);
-    }
+    let B = c .before .before .break-off .ensures in
+    broken-off (st .pre .0) (M .grown) (B .0) (st .pre .1 .1) (M .under) (c .before .before .break-off .result) (B .1)
 
 same-length-3 : tie.Need-same-length-3
 same-length-3 c = search needs
@@ -91,14 +85,8 @@ returns-3 : tie.Need-returns-3
 returns-3 c =
     let st = c .before .before .before .before .before .before .before .before .before .before .before .before .before .before .before .before in
     let M = rw (c .before .before .before .before .before .answer3 .given .1) at (c .before .before .before .before .before .before .before .before .before .multiply .ensures) in
-    record {
-      held = held-back (st .pre .0) (M .grown) (c .before .before .give-back2 .ensures);
-      under = M .under;
-      onward = omega arith;
-      within = omega arith;
-      bound = omega (arith, st .pre .1);
-      less = omega (arith, st .pre .1);
-    }
+    let B = c .before .before .break-off2 .ensures in
+    broken-off (st .pre .0) (M .grown) (B .0) (st .pre .1 .1) (M .under) (c .before .before .break-off2 .result) (B .1)
 
 pub and-of-spec : {M : Type 1} → statement M
 and-of-spec =
@@ -112,9 +100,9 @@ and-of-spec =
     element-write-references
     add-t27
     enum-known-answer-2
-    give-back-requires
+    break-off-requires
     enum-known-answer-3
-    give-back-requires-2
+    break-off-requires-2
     same-length
     returns
     same-length-2
