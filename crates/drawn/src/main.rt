@@ -1,5 +1,6 @@
 // Many drawn pairs of circuits: each is written as two drawing files, loaded and compared under varied limits, and each reply is held
-// against truth tables that this program computes from the gates that it drew. A line for each kind of reply: how many came.
+// against truth tables that this program computes from the gates that it drew. First how many pairs were drawn, then a line for each kind
+// of reply, how many came, and how many answers were wrong.
 ghost use lib.ListN.{length};
 ghost use mathlib.Core.Path.{_≡_};
 
@@ -71,7 +72,7 @@ fn run(
         );
         drawn += 1;
     }
-    tally::print(&tally);
+    tally::print(drawn, &tally);
 }
 
 fn main() {

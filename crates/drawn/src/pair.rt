@@ -214,8 +214,47 @@ fn hold_values(
     evaluated::hold_side(table, 2, two, right, values, seed, tally);
 }
 
-// Compares some outputs, every output, some again, and is turned back once.
+// Makes the comparisons, and is turned back once.
 fn compare_table(
+    table: &mut [u32; TABLE],
+    pairs: &mut [u32; TABLE],
+    look: &mut [u32; TABLE],
+    diagrams: &mut [u32; TABLE],
+    stages: &mut [u32; TABLE],
+    rows: &mut [u32; ROWS],
+    marks: &mut [u8; VERTICES],
+    facts: Facts,
+    seed: &mut u32,
+    tally: &mut [u32; KINDS],
+) {
+    compare_outputs(
+        table,
+        pairs,
+        look,
+        diagrams,
+        stages,
+        rows,
+        marks,
+        facts,
+        seed,
+        tally,
+    );
+    refuse_one(
+        table,
+        pairs,
+        look,
+        diagrams,
+        stages,
+        rows,
+        marks,
+        facts,
+        seed,
+        tally,
+    );
+}
+
+// Compares some outputs, every output, and some again.
+fn compare_outputs(
     table: &mut [u32; TABLE],
     pairs: &mut [u32; TABLE],
     look: &mut [u32; TABLE],
@@ -252,18 +291,6 @@ fn compare_table(
         tally,
     );
     compare_some(
-        table,
-        pairs,
-        look,
-        diagrams,
-        stages,
-        rows,
-        marks,
-        facts,
-        seed,
-        tally,
-    );
-    refuse_one(
         table,
         pairs,
         look,

@@ -31,20 +31,26 @@ pub fn hold(tally: &mut [u32; KINDS], holds: bool) {
     count(tally, WRONG);
 }
 
-pub fn print(tally: &[u32; KINDS]) {
-    print_line(b"equal ", tally, EQUAL);
-    print_line(b"different ", tally, DIFFERENT);
-    print_line(b"size ", tally, SIZE);
-    print_line(b"rows ", tally, ROWS);
-    print_line(b"steps ", tally, STEPS);
-    print_line(b"idle ", tally, IDLE);
-    print_line(b"refused ", tally, REFUSED);
-    print_line(b"wrong ", tally, WRONG);
+// Prints how many pairs there were, and the counts of each kind.
+pub fn print(pairs: u32, tally: &[u32; KINDS]) {
+    print_line(b"pairs ", pairs);
+    print_kind(b"equal ", tally, EQUAL);
+    print_kind(b"different ", tally, DIFFERENT);
+    print_kind(b"size ", tally, SIZE);
+    print_kind(b"rows ", tally, ROWS);
+    print_kind(b"steps ", tally, STEPS);
+    print_kind(b"idle ", tally, IDLE);
+    print_kind(b"refused ", tally, REFUSED);
+    print_kind(b"wrong ", tally, WRONG);
 }
 
-fn print_line(word: &[u8], tally: &[u32; KINDS], kind: usize) {
+fn print_kind(word: &[u8], tally: &[u32; KINDS], kind: usize) {
+    print_line(word, tally[kind % KINDS]);
+}
+
+fn print_line(word: &[u8], number: u32) {
     io::write_all(STDOUT_FILENO, word);
-    io::print_decimal(STDOUT_FILENO, wide(tally[kind % KINDS]));
+    io::print_decimal(STDOUT_FILENO, wide(number));
     io::write_all(STDOUT_FILENO, b"\n");
 }
 

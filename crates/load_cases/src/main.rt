@@ -341,7 +341,14 @@ fn lengths(left: &[u8], right: &[u8], more: &[u8]) {
     );
 }
 
+// The largest pair with each working slice one word short.
 fn slices(left: &[u8], right: &[u8]) {
+    graph_slices(left, right);
+    literal_slices(left, right);
+}
+
+// The slices of the graph: its pairs, and its look-up.
+fn graph_slices(left: &[u8], right: &[u8]) {
     show_short(
         b"pairs one word short",
         left,
@@ -362,6 +369,10 @@ fn slices(left: &[u8], right: &[u8]) {
         SLICE,
         SLICE,
     );
+}
+
+// The slices of literals: those of a file's vertices, and those of the outputs.
+fn literal_slices(left: &[u8], right: &[u8]) {
     show_short(
         b"literals one word short",
         left,

@@ -211,6 +211,7 @@ module _ {s : List ℕ} {limit used f g left steps most : ℕ} {h : Halves} (B :
             }
 
       -- What the row gives, by its answer.
-      pub row-added : (t : List ℕ) (answer : Product) → AddsRow s1 t limit used1 (h .level) low high steps1 answer → Multiplies s t limit used f g left steps most answer
+      pub row-added : (t : List ℕ) (answer : Product) → AddsRow s1 t limit used1 (h .level) low high steps1 answer
+          → Multiplies s t limit used f g left steps most answer
       row-added t (Done r u k) (M, e) = rw e (row-done M)
-      row-added t (ShortOfRows u k) (M, eu, ek) = rw (eu, ek) (row-short M)
+      row-added t (ShortOfRows u k) (M, (eu, ek)) = rw (eu, ek) (row-short M)

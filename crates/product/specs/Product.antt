@@ -62,5 +62,5 @@ Multiplies s t limit used f g left steps most (ShortOfSteps u k) = Multiplied s 
 -- What the row of two results gives: `make`'s reference, or no row left and the rows as they were; the steps stay.
 abbrev pub AddsRow : List ℕ → List ℕ → ℕ → ℕ → ℕ → ℕ → ℕ → ℕ → Product → Type 0
 AddsRow s t limit used level low high steps (Done r u k) = MadeAt s t limit used level low high r u × (k ≡ steps)
-AddsRow s t limit used level low high steps (ShortOfRows u k) = MadeFull s t limit used level low high × (u ≡ used) × (k ≡ steps)
+AddsRow s t limit used level low high steps (ShortOfRows u k) = MadeFull s t limit used level low high × ((u ≡ used) × (k ≡ steps))
 AddsRow s t limit used level low high steps (ShortOfSteps u k) = ⊥

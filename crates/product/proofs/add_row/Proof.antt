@@ -24,7 +24,7 @@ same-length-2 : tie.Need-same-length-2
 same-length-2 c = search needs
 
 returns-2 : tie.Need-returns-2
-returns-2 c = (rw (c .enum-told .given .1) at (c .before .before .before .before .make .ensures), refl, refl)
+returns-2 c = (rw (c .enum-told .given .1) at (c .before .before .before .before .make .ensures), (refl, refl))
 
 pub add-row-spec : {M : Type 1} → statement M
 add-row-spec = tie.close (tie.spec make-requires enum-known-made enum-told same-length returns same-length-2 returns-2)
