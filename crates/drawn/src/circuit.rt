@@ -2,7 +2,8 @@
 // Every place is reduced to the words' number.
 use crate::random::draw;
 use crate::random::draw_late;
-ghost use Prim.Native.Nat.{_<_};
+ghost use Prim.Native.Nat.{_%_, _*_, _+_, _-_, _<_};
+ghost use mathlib.Core.Path.{_≡_};
 
 pub const WORDS: usize = 512;
 
@@ -90,7 +91,9 @@ pub fn references(circuit: &[u32; WORDS]) -> u32
 }
 
 // The other reference to the same vertex.
-pub fn invert(r: u32) -> u32 {
+pub fn invert(r: u32) -> u32
+    ensures { λ s. ⌜ s ≡ r + 1 - 2 * (r % 2) ⌝ }
+{
     if r % 2 == 0 { r + 1 } else { r - 1 }
 }
 

@@ -2,10 +2,29 @@
 use Prim.Native.Nat.{_*_, _+_, _<_, _≤_, ℕ}
 use Rattle.aig.specs.Lookup.{Holds, firstWord, secondWord}
 use Rattle.bdd.specs.Rows.{LIMIT}
+use Rattle.card_file.specs.CardFile.{numberOf, partOf}
 use Rattle.sweep.specs.declared.task.Task.{Task}
 use Rattle.sweep_model.specs.Fit.{Downward}
 use mathlib.Core.List.{List}
 use mathlib.Core.Path.{_≡_}
+
+-- The number in field k of a card.
+abbrev pub numberIn : List ℕ → ℕ → ℕ
+numberIn card k = numberOf (partOf 124 card k)
+
+-- What a card asks: its fields 1 to 8.
+abbrev pub taskIn : List ℕ → Task
+taskIn card =
+    record {
+      first = numberIn card 1;
+      count = numberIn card 2;
+      inputs = numberIn card 3;
+      left = numberIn card 4;
+      right = numberIn card 5;
+      size = numberIn card 6;
+      rows = numberIn card 7;
+      steps = numberIn card 8;
+    }
 
 -- The most vertices and inputs of a card's graph.
 abbrev pub VERTICES : ℕ

@@ -5,28 +5,38 @@ use card_file::field;
 use card_file::number;
 use sweep::task::Task;
 ghost use Prim.Native.Nat.{_*_, _≤_};
-ghost use Rattle.sweep_cases.specs.Asked.{Asked, Between, Limited, Named, VERTICES};
+ghost use Rattle.sweep_cases.specs.Asked.{Asked, Between, Limited, Named, VERTICES, numberIn, taskIn};
 ghost use lib.ListN.{length};
 ghost use mathlib.Core.Bool.{true};
 ghost use mathlib.Core.Path.{_≡_};
 
-pub const MAX_INPUTS: usize = 64;
+pub const MAX_INPUTS: usize = table::MAX_INPUTS as usize;
 
 // The highest size limit and row limit.
 pub const MAX_ROWS: usize = 32768;
 
 const MAX_STEPS: usize = 4294967295;
 
-pub fn task_of(card: &[u8]) -> Task {
+// The number in field `k` of a card.
+fn number_in(card: &[u8], k: usize) -> u32
+    ensures { λ r. ⌜ r ≡ numberIn (now (card .entry)) k ⌝ }
+{
+    number(field(card, k))
+}
+
+// The task of a card: its fields 1 to 8.
+pub fn task_of(card: &[u8]) -> Task
+    ensures { λ r. ⌜ r ≡ taskIn (now (card .entry)) ⌝ }
+{
     Task {
-        first: number(field(card, 1)),
-        count: number(field(card, 2)),
-        inputs: number(field(card, 3)) as usize,
-        left: number(field(card, 4)),
-        right: number(field(card, 5)),
-        size: number(field(card, 6)) as usize,
-        rows: number(field(card, 7)) as usize,
-        steps: number(field(card, 8)) as usize,
+        first: number_in(card, 1),
+        count: number_in(card, 2),
+        inputs: number_in(card, 3) as usize,
+        left: number_in(card, 4),
+        right: number_in(card, 5),
+        size: number_in(card, 6) as usize,
+        rows: number_in(card, 7) as usize,
+        steps: number_in(card, 8) as usize,
     }
 }
 
