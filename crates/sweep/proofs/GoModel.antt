@@ -14,7 +14,7 @@ use Rattle.sweep.proofs.ScanModel.{SameLengths}
 use Rattle.sweep.specs.Meet.{Board}
 use Rattle.sweep.specs.Multiply.{Scene}
 use Rattle.sweep.specs.Settle.{stateOn}
-use Rattle.sweep.specs.Start.{sceneOf}
+use Rattle.sweep.specs.Start.{firstScene}
 use Rattle.sweep.specs.Turn.{Goes, OpenIn, OpenOn, Opens, RestIn, RestOn, gone, openedBy}
 use Rattle.sweep.specs.Words.{posed}
 use Rattle.sweep.specs.declared.end.End.{End}
@@ -33,7 +33,7 @@ goneFrom t x used steps b = go (posed t (x .functions)) (stateOn t b used steps)
 
 -- The scene with the turns that are left here.
 abbrev pub nowLeft : Task → Scene → ℕ → ℕ → Board → Scene
-nowLeft t x used steps b = sceneOf t (x .functions) (x .entry) b used steps
+nowLeft t x used steps b = firstScene t (x .functions) (x .entry) b used steps
 
 -- The scene with the turns that are left after vertex v has opened.
 abbrev leftAfter : Task → Scene → ℕ → ℕ → ℕ → Board → Scene

@@ -5,7 +5,7 @@ use Rattle.sweep_model.specs.declared.Cause.{Cause}
 use Rattle.sweep.proofs.EndModel.{represents-closed}
 use Rattle.sweep.specs.Ending.{verdictOf}
 use Rattle.sweep.specs.Meet.{Board}
-use Rattle.sweep.specs.Start.{Starts, SweepAsked, sceneOf}
+use Rattle.sweep.specs.Start.{Starts, SweepAsked, firstScene}
 use Rattle.sweep.specs.Sweep.{Rests, Sweeps, causeBy}
 use Rattle.sweep.specs.Turn.{Goes, RestIn}
 use Rattle.sweep.specs.Words.{posed}
@@ -45,7 +45,7 @@ module _ (t : Task) (b middle : Board) {g : Going} (starts : Starts t b middle g
     pub start-rests : {places : List ℕ} → SweepAsked t places b → RestIn t used steps middle
     start-rests a =
         record {
-          scene = sceneOf t (a .functions) (b .pairs) middle used steps;
+          scene = firstScene t (a .functions) (b .pairs) middle used steps;
           on = subst (Starts t b middle) h starts (a .functions) (a .poses) .rests;
         }
 
@@ -54,7 +54,7 @@ module _ (t : Task) (b middle : Board) {g : Going} (starts : Starts t b middle g
     unfolding andThen go sweep
     sweep-goes-on after rests = λ functions poses.
         let s = subst (Starts t b middle) h starts functions poses in
-        let r = rests (sceneOf t functions (b .pairs) middle used steps) (s .rests) in
+        let r = rests (firstScene t functions (b .pairs) middle used steps) (s .rests) in
         record {
           answer = ap (λ (o : Progress). answerOf (andThen o (go (posed t functions)))) (s .reached) ∙ r .answer;
           closed = r .closed;

@@ -65,13 +65,13 @@ inputsGiven t functions b =
     andThen (inputsFrom p 1 (t .first - 1) (stateOn t b 0 0)) (look p)
 
 -- The scene of the first turn.
-abbrev pub sceneOf : Task → List Truth → List ℕ → Board → ℕ → ℕ → Scene
-sceneOf t functions entry b used steps = record { functions = functions; entry = entry; turns = turnsLeft (stateOn t b used steps .stages) }
+abbrev pub firstScene : Task → List Truth → List ℕ → Board → ℕ → ℕ → Scene
+firstScene t functions entry b used steps = record { functions = functions; entry = entry; turns = turnsLeft (stateOn t b used steps .stages) }
 
 -- The model has gone on to these words, and the first turn can begin.
 pub record GoneOn (t : Task) (functions : List Truth) (entry : List ℕ) (o : Progress) (after : Board) (used steps : ℕ) : Type 0 where
   pub reached : o ≡ on (stateOn t after used steps)
-  pub rests : RestOn t (sceneOf t functions entry after used steps) used steps after
+  pub rests : RestOn t (firstScene t functions entry after used steps) used steps after
 
 abbrev pub GivesInputs : Task → Board → Board → Going → Type 0
 GivesInputs t b after (On used steps) =

@@ -54,11 +54,11 @@ abbrev pub gone : Task → Scene → ℕ → ℕ → Board → Progress
 gone t x used steps b = goFor (posed t (x .functions)) (x .turns) (stateOn t b used steps)
 
 -- None waits.
-pub record AtRest (t : Task) (x : Scene) (used steps : ℕ) (b after : Board) (more taken : ℕ) : Type 0 where
+pub record Rested (t : Task) (x : Scene) (used steps : ℕ) (b after : Board) (more taken : ℕ) : Type 0 where
   pub reached : gone t x used steps b ≡ on (stateOn t after more taken)
   pub represents : Represents t (x .functions) (x .entry) (onBoard after more taken)
 
 abbrev pub Goes : Task → ℕ → ℕ → Board → Board → Going → Type 0
-Goes t used steps b after (On more taken) = (x : Scene) → RestOn t x used steps b → AtRest t x used steps b after more taken
+Goes t used steps b after (On more taken) = (x : Scene) → RestOn t x used steps b → Rested t x used steps b after more taken
 Goes t used steps b after (Ended e more taken) =
     (x : Scene) → RestOn t x used steps b → Ends t (x .functions) (gone t x used steps b) after more taken e
