@@ -4,7 +4,7 @@ use card_file::field;
 use card_file::number;
 use card_file::number_at;
 use card_file::number_count;
-use comparer::Limits;
+use compare_model::Limits;
 use libc::STDOUT_FILENO;
 use loader::Loaded;
 use sweep_model::Reply;

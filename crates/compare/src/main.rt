@@ -1,5 +1,5 @@
 // The program: compares the drawings `left.tsv` and `right.tsv`, and prints a line for each output or why they are refused.
-use comparer::Limits;
+use compare_model::Limits;
 use libc::STDOUT_FILENO;
 use loader::Loaded;
 use sweep_model::Reply;

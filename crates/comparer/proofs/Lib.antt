@@ -1,11 +1,2 @@
-pub mod RefusalLaws
-pub mod GraphLaws
-pub mod LeftLaws
-pub mod CopyLaws
-pub mod SettingLaws
 pub mod RunLaws
 pub mod CompareLaws
-pub mod Since
-pub mod RestLaws
-pub mod ReplyLaws
-pub mod ClaimLaws

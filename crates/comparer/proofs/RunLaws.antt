@@ -1,12 +1,12 @@
 -- What the sweep is asked where no refusal applies, and what its end says of the comparison.
 use Prim.Native.Nat.{_*_, _<_, _≤_, ℕ}
 use Rattle.bdd.proofs.StoreLaws.{store-length}
-use Rattle.comparer.proofs.GraphLaws.{count-vertices, fits, length-graph}
-use Rattle.comparer.specs.Code.{given, limitsOf, roomOfLists}
-use Rattle.comparer.specs.Compare.{answerTo, graphWords, overFront, problemOf}
-use Rattle.comparer.specs.Passed.{Enough, LimitsWithin}
+use Rattle.compare_model.proofs.GraphLaws.{count-vertices, fits, length-graph}
+use Rattle.compare_parts.specs.Code.{given, limitsOf, roomOfLists}
+use Rattle.compare_model.specs.Compare.{answerTo, graphWords, overFront, problemOf}
+use Rattle.compare_model.specs.Passed.{Enough, LimitsWithin}
 use Rattle.comparer.specs.Work.{Posed, Ran}
-use Rattle.comparer.specs.declared.Limits.{Limits}
+use Rattle.compare_model.specs.declared.Limits.{Limits}
 use Rattle.sweep.specs.Ending.{verdictOf}
 use Rattle.sweep.specs.Inputs.{sheets}
 use Rattle.sweep.specs.Meet.{Board, board}

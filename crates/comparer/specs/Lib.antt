@@ -1,5 +1,1 @@
-pub mod Claims
-pub mod Code
-pub mod Compare
-pub mod Passed
 pub mod Work

@@ -1,14 +1,13 @@
 -- What the parts of a comparison that is not refused give each other: the sweep's task, how it ended, and what follows it.
 use Prim.Native.Nat.{_*_, _≤_, ℕ}
 use Rattle.bdd.specs.Store.{Store}
-use Rattle.comparer.specs.Code.{limitsOf}
-use Rattle.comparer.specs.Compare.{Given, answerTo, maxRows, maxSteps, overFront, problemOf}
-use Rattle.comparer.specs.declared.Limits.{Limits as Asked}
+use Rattle.compare_parts.specs.Code.{limitsOf}
+use Rattle.compare_model.specs.Compare.{Given, answerTo, maxRows, maxSteps, overFront, problemOf}
+use Rattle.compare_model.specs.declared.Limits.{Limits as Asked}
 use Rattle.sweep.specs.Ending.{Refers, verdictOf}
 use Rattle.sweep.specs.Words.{posed}
 use Rattle.sweep.specs.declared.Ended.{Ended}
 use Rattle.sweep.specs.declared.task.Task.{Task}
-use Rattle.sweep_model.specs.declared.Counts.{Counts}
 use Rattle.table.specs.Accepted.{Accepted}
 use Rattle.table.specs.Table.{functionsOf, graphOf, inputsOf, verticesOf}
 use lib.ListN.{length, take}
@@ -23,10 +22,6 @@ pub record Posed (table : List ℕ) (output : ℕ) (limits : Asked) (t : Task) :
   pub size : t .size ≡ limits .size
   pub rows : t .rows ≡ limits .rows
   pub steps : t .steps ≡ limits .steps
-
--- The rows and steps that a reply carries.
-abbrev pub countsBy : Ended → Counts
-countsBy e = record { rows = e .used; steps = e .steps }
 
 -- The sweep has ended: the model's answer, by what the slices hold then.
 pub record Ran (g : Given) (pairs rows marks : List ℕ) (e : Ended) : Type 0 where

@@ -1,23 +1,14 @@
 // compare: the output of a table on both sides.
-mod copy;
-mod refusal;
-mod reply;
-mod setting;
 mod task;
 mod work;
 
-use crate::refusal::Lengths;
+use compare_model::Limits;
+use compare_parts::refusal;
+use compare_parts::refusal::Lengths;
 use sweep_model::Reply;
-ghost use Rattle.comparer.specs.Code.{Unchanged, given, left};
-ghost use Rattle.comparer.specs.Compare.{compared, refusalOf};
+ghost use Rattle.compare_model.specs.Compare.{compared, refusalOf};
+ghost use Rattle.compare_parts.specs.Code.{Unchanged, given, left};
 ghost use mathlib.Core.Path.{_≡_};
-
-// The size limit, the row limit and the step limit. The last is wider, so that one that is too large can be given and refused.
-pub struct Limits {
-    pub size: u32,
-    pub rows: u32,
-    pub steps: u64,
-}
 
 // Compares output number `output` of the two sides of a table. The reply is one of:
 // - Refused, with the number of the first refusal that applies, 10 to 15: then no slice is changed;

@@ -1,5 +1,5 @@
 // What the sweep is asked.
-use crate::Limits;
+use compare_model::Limits;
 use sweep::task::Task;
 ghost use Prim.Native.Nat.{_<_};
 ghost use Rattle.comparer.specs.Work.{Posed};

@@ -1,18 +1,18 @@
 // A comparison that is not refused.
-use crate::Limits;
-use crate::copy::copy_in;
-use crate::copy::copy_out;
-use crate::reply::reply_of;
-use crate::reply::write_setting;
 use crate::task::task_of;
+use compare_model::Limits;
+use compare_parts::copy::copy_in;
+use compare_parts::copy::copy_out;
+use compare_parts::reply::reply_of;
+use compare_parts::reply::write_setting;
 use sweep::Ended;
 use sweep::sweep;
 use sweep_model::Reply;
 ghost use Prim.Native.Nat.{_*_, _<_, ℕ};
-ghost use Rattle.comparer.specs.Code.{given, limitsOf, roomOfLists};
-ghost use Rattle.comparer.specs.Compare.{settingLeft, tableLeft};
-ghost use Rattle.comparer.specs.Passed.{Enough, LimitsWithin};
-ghost use Rattle.comparer.specs.Work.{Finishes, Ran, countsBy};
+ghost use Rattle.compare_parts.specs.Code.{countsBy, given, limitsOf, roomOfLists};
+ghost use Rattle.compare_model.specs.Compare.{settingLeft, tableLeft};
+ghost use Rattle.compare_model.specs.Passed.{Enough, LimitsWithin};
+ghost use Rattle.comparer.specs.Work.{Finishes, Ran};
 ghost use Rattle.sweep.specs.Ending.{verdictOf};
 ghost use Rattle.sweep_model.specs.Reply.{replyWith};
 ghost use Rattle.table.specs.Accepted.{Accepted};

@@ -1,8 +1,8 @@
 -- The bench cards, computed.
 use Rattle.aig.specs.Fold.{foldOf}
 use Rattle.aig.specs.Lookup.{firstVertex, ownWords}
-use Rattle.comparer.specs.Compare.{answerTo, answered, beyond?, compared, graphWords, outputsLeft, outside?, problemOf, refusalOf, settingBytes, settingLeft, tableLeft, turnedBack}
-use Rattle.comparer.specs.Compare.{shortSlice? as slices?}
+use Rattle.compare_model.specs.Compare.{answerTo, answered, beyond?, compared, graphWords, outputsLeft, outside?, problemOf, refusalOf, settingBytes, settingLeft, tableLeft, turnedBack}
+use Rattle.compare_model.specs.Compare.{shortSlice? as slices?}
 use Rattle.demands.specs.Cards.{Cards, Replying, loadedTable, outputFile}
 use Rattle.loader.proofs.Cards.{loading}
 use Rattle.loader.specs.Build.{askAnd, askGate, askGates, buildFile, buildPair, emptyBuild, foldedOrNot, foundOrMade, literalsFrom}

@@ -1,9 +1,9 @@
 -- Limits that suffice decide.
 use Prim.Native.Nat.{ℕ}
-use Rattle.comparer.proofs.ClaimLaws.{reply-says}
-use Rattle.comparer.proofs.Since.{Since}
-use Rattle.comparer.specs.Claims.{ReplySays}
-use Rattle.comparer.specs.Compare.{Given, compared, refusalOf}
+use Rattle.compare_model.proofs.ClaimLaws.{reply-says}
+use Rattle.compare_model.proofs.Since.{Since}
+use Rattle.compare_model.specs.Claims.{ReplySays}
+use Rattle.compare_model.specs.Compare.{Given, compared, refusalOf}
 use Rattle.demands.proofs.Demand3.{each-call, loaded-files, since-first}
 use Rattle.demands.proofs.ReplyLaws.{said-kept}
 use Rattle.demands.specs.Complete.{Complete, Decided, Suffice, is-different, is-equal}

@@ -1,7 +1,7 @@
 -- Demand 3, proved. What holds since the table was loaded is kept by every call, and each reply follows from it.
 use Prim.Native.Nat.{ℕ}
-use Rattle.comparer.proofs.Since.{Since, since-compared, since-loaded}
-use Rattle.comparer.specs.Compare.{compared}
+use Rattle.compare_model.proofs.Since.{Since, since-compared, since-loaded}
+use Rattle.compare_model.specs.Compare.{compared}
 use Rattle.demands.proofs.FileLaws.{function-value, table-inputs, table-outputs}
 use Rattle.demands.proofs.ReplyLaws.{reply-kept}
 use Rattle.demands.specs.Claims.{ReplyKept}

@@ -2,7 +2,7 @@
 use Prim.Native.Nat.{ℕ}
 use Rattle.aig.specs.Fold.{foldOf}
 use Rattle.aig.specs.Lookup.{firstVertex, ownWords}
-use Rattle.comparer.specs.Compare.{answerTo, answered, beyond?, compared, graphWords, outputsLeft, outside?, problemOf, refusalOf, settingBytes, settingLeft, shortSlice?, tableLeft, turnedBack}
+use Rattle.compare_model.specs.Compare.{answerTo, answered, beyond?, compared, graphWords, outputsLeft, outside?, problemOf, refusalOf, settingBytes, settingLeft, shortSlice?, tableLeft, turnedBack}
 use Rattle.demands.proofs.Demand3.{demand3}
 use Rattle.demands.specs.Cards.{comparisonOf, usual}
 use Rattle.demands.specs.Demand3.{Holds, Ran}

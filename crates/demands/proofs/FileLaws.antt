@@ -1,8 +1,8 @@
 -- The table of an accepted load against the files: its outputs' values, and its vertices against the gates' ANDs.
 use Prim.Native.Nat.{_+_, _-_, _<_, _≤_, suc, zero, ℕ}
-use Rattle.comparer.proofs.GraphLaws.{count-vertices, made-row}
-use Rattle.comparer.proofs.ReplyLaws.{sum-fewer}
-use Rattle.comparer.specs.Compare.{graphWords, problemOf}
+use Rattle.compare_model.proofs.GraphLaws.{count-vertices, made-row}
+use Rattle.compare_model.proofs.ReplyLaws.{sum-fewer}
+use Rattle.compare_model.specs.Compare.{graphWords, problemOf}
 use Rattle.demands.specs.Claims.{TooLarge, TooManyParts, TooManySteps, gatesAnds, sideValue}
 use Rattle.loader.proofs.AndLaws.{made-function, made-parts, rows-from, rows-total}
 use Rattle.loader.proofs.FromLaws.{place-within, placeIn}

@@ -1,10 +1,10 @@
 -- Each reply kept what demand 3 says of it: what is said of the table as loaded is said of the files.
 use Prim.Native.Nat.{_<_, ℕ}
-use Rattle.comparer.proofs.ClaimLaws.{reply-says}
-use Rattle.comparer.proofs.RefusalLaws.{compared-refused, passed}
-use Rattle.comparer.proofs.Since.{Since}
-use Rattle.comparer.specs.Claims.{Differs, ReplySays, SameFunction}
-use Rattle.comparer.specs.Compare.{Given, compared, problemOf, refusalOf, settingBytes, turnedBack}
+use Rattle.compare_model.proofs.ClaimLaws.{reply-says}
+use Rattle.compare_model.proofs.RefusalLaws.{compared-refused, passed}
+use Rattle.compare_model.proofs.Since.{Since}
+use Rattle.compare_model.specs.Claims.{Differs, ReplySays, SameFunction}
+use Rattle.compare_model.specs.Compare.{Given, compared, problemOf, refusalOf, settingBytes, turnedBack}
 use Rattle.demands.proofs.FileLaws.{function-value, table-inputs, table-outputs, too-large, too-many-parts, too-many-steps}
 use Rattle.demands.specs.Claims.{Agree, ReplyKept, Separated, sideValue}
 use Rattle.loader.specs.Load.{tableOf}

@@ -1,7 +1,7 @@
 -- The bench cards marked P: "shown from the definitions, as a group under a common theorem". Those on replies are here, from the bytes of
 -- the files; those on parts and steps and those on loading stand with their definitions.
 use Prim.Native.Nat.{_*_, ℕ}
-use Rattle.comparer.specs.Compare.{Given, Left, compared}
+use Rattle.compare_model.specs.Compare.{Given, Left, compared}
 use Rattle.loader.specs.Cards.{Loading, andFile, orFile, tableLeft}
 use Rattle.loader.specs.Load.{maxTable, maxVertices}
 use Rattle.sweep_model.specs.State.{Limits}

@@ -1,7 +1,7 @@
 -- What the paper claims of a comparison's reply, in terms of the files, the table as loaded, and what the comparison left.
 use Prim.Native.Nat.{_<_, ℕ}
-use Rattle.comparer.specs.Claims.{RowsKept, StepsKept, problemBy}
-use Rattle.comparer.specs.Compare.{Given, Left, graphWords, refusalOf, settingBytes}
+use Rattle.compare_model.specs.Claims.{RowsKept, StepsKept, problemBy}
+use Rattle.compare_model.specs.Compare.{Given, Left, graphWords, refusalOf, settingBytes}
 use Rattle.netlist.specs.Meaning.{fileAnds, fileValue}
 use Rattle.netlist.specs.Netlist.{Netlist}
 use Rattle.sweep_model.specs.Claims.{AfterIdle, And, AtRest, andFunction, andSteps, sum}

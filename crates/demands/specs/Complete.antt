@@ -1,6 +1,6 @@
 -- What demand 3 comes to where the limits suffice: every comparison that is not refused decides.
 use Prim.Native.Nat.{ℕ}
-use Rattle.comparer.specs.Compare.{refusalOf}
+use Rattle.compare_model.specs.Compare.{refusalOf}
 use Rattle.demands.specs.Claims.{Agree, TooLarge, TooManyParts, TooManySteps}
 use Rattle.demands.specs.Demand3.{Call, Each, Ran}
 use Rattle.loader.specs.Load.{Room, loadResult, tableOf}

@@ -1,6 +1,6 @@
 -- Demand 3. Every list of comparisons, refused ones included, on the table of an accepted load of two files.
 use Prim.Native.Nat.{_<_, ℕ}
-use Rattle.comparer.specs.Compare.{Given, Left, compared}
+use Rattle.compare_model.specs.Compare.{Given, Left, compared}
 use Rattle.demands.specs.Claims.{ReplyKept, sideValue}
 use Rattle.loader.specs.Load.{Room, loadResult, tableOf}
 use Rattle.loader.specs.declared.Loaded.the-variants.{Accepted}

@@ -1,6 +1,6 @@
 -- Premises of demand 3 that are met: "The and/or pair above", and three comparisons of it, the second of them refused.
 use Prim.Native.Nat.{ℕ}
-use Rattle.comparer.specs.Compare.{Given, compared}
+use Rattle.compare_model.specs.Compare.{Given, compared}
 use Rattle.demands.specs.Cards.{comparisonOf, usual}
 use Rattle.demands.specs.Demand3.{Call, Ran}
 use Rattle.loader.specs.Cards.{andFile, room, withOneGate}

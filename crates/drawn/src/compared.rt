@@ -6,7 +6,7 @@ use crate::settings;
 use crate::tables;
 use crate::tally;
 use crate::tally::KINDS;
-use comparer::Limits;
+use compare_model::Limits;
 use sweep_model::Cause;
 use sweep_model::Counts;
 use sweep_model::Reply;

@@ -12,7 +12,7 @@ use crate::rewrite;
 use crate::tables;
 use crate::tally;
 use crate::tally::KINDS;
-use comparer::Limits;
+use compare_model::Limits;
 use loader::Loaded;
 
 // How many comparisons under drawn limits are made in a row.

@@ -3,7 +3,7 @@
 use Rattle.aig.specs.declared.literal.Literal.{Literal}
 use Rattle.comparer.proofs.task.task_of.Statement.{statement}
 use Rattle.comparer.proofs.task.task_of.Tie as tie
-use Rattle.comparer.specs.Compare.{problemOf}
+use Rattle.compare_model.specs.Compare.{problemOf}
 use borrow.Author.Needs.{needs}
 use mathlib.Core.Path.{ap, refl}
 

@@ -3,7 +3,7 @@
 use Prim.Native.Nat.{_*_, ℕ}
 use Rattle.comparer.proofs.work.finish.Statement.{statement}
 use Rattle.comparer.proofs.work.finish.Tie as tie
-use Rattle.comparer.specs.Compare.{tableLeft}
+use Rattle.compare_model.specs.Compare.{tableLeft}
 use Rattle.table.specs.Table.{inputsOf}
 use borrow.Author.Needs.{needs}
 use lib.ListN.{take}

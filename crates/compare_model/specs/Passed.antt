@@ -1,0 +1,35 @@
+-- What is known of a comparison that is not refused.
+use Prim.Native.Nat.{_*_, _<_, _≤_, ℕ}
+use Rattle.compare_model.specs.Compare.{Given, Room, maxRows, maxSteps}
+use Rattle.sweep_model.specs.State.{Limits}
+use Rattle.table.specs.Accepted.{Accepted}
+use Rattle.table.specs.Table.{inputsOf, outputsOf, verticesOf}
+use lib.ListN.{length}
+
+-- A limit is from 1 to a most.
+pub record Within (most n : ℕ) : Type 0 where
+  pub some : 1 ≤ n
+  pub bounded : n ≤ most
+
+-- The limits are within theirs.
+pub record LimitsWithin (l : Limits) : Type 0 where
+  pub size : Within maxRows (l .size)
+  pub rows : Within maxRows (l .rows)
+  pub steps : Within maxSteps (l .steps)
+
+-- The working slices and the marks are long enough.
+pub record Enough (vertices rows : ℕ) (r : Room) (marks : ℕ) : Type 0 where
+  pub pairs : 2 * vertices ≤ r .pairs
+  pub look : 2 * vertices ≤ r .look
+  pub diagrams : 2 * vertices ≤ r .diagrams
+  pub stages : 2 * vertices ≤ r .stages
+  pub diagram-rows : 4 * rows ≤ r .rows
+  pub marked : vertices ≤ marks
+
+-- What a comparison that is not refused was given.
+pub record Passed (g : Given) : Type 0 where
+  pub table : Accepted (g .table)
+  pub output : g .output < outputsOf (g .table)
+  pub limits : LimitsWithin (g .limits)
+  pub room : Enough (verticesOf (g .table)) (g .limits .rows) (g .room) (length (g .marks))
+  pub setting : inputsOf (g .table) ≤ length (g .setting)

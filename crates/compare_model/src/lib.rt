@@ -1,0 +1,8 @@
+// A comparison: what it is asked.
+
+// The size limit, the row limit and the step limit. The last is wider, so that one that is too large can be given and refused.
+pub struct Limits {
+    pub size: u32,
+    pub rows: u32,
+    pub steps: u64,
+}

@@ -1,0 +1,128 @@
+-- The rows after the header, then the output references resolved in place; no loop.
+-- One law says what is lent between the two, one what is left.
+use Rattle.compare_parts.proofs.CopyLaws.{outputs-resolved, outputs-within}
+use Rattle.compare_parts.proofs.copy.copy_out.Statement.{statement}
+use Rattle.compare_parts.proofs.copy.copy_out.Tie as tie
+use borrow.Author.Needs.{needs}
+
+slice-read-made : tie.Need-slice-read-made
+slice-read-made c = search needs
+
+cast-made : tie.Need-cast-made
+cast-made c = search needs
+
+slice-read-outputs : tie.Need-slice-read-outputs
+slice-read-outputs c = search needs
+
+cast-outputs : tie.Need-cast-outputs
+cast-outputs c = search needs
+
+slice-read-first : tie.Need-slice-read-first
+slice-read-first c = search needs
+
+cast-first : tie.Need-cast-first
+cast-first c = search needs
+
+add-first : tie.Need-add-first
+add-first c = search needs
+
+mul-first : tie.Need-mul-first
+mul-first c = search needs
+
+mul-from : tie.Need-mul-from
+mul-from c = search needs
+
+add-from : tie.Need-add-from
+add-from c = search needs
+
+mul-end : tie.Need-mul-end
+mul-end c = search needs
+
+add-end : tie.Need-add-end
+add-end c = search needs
+
+mul-copy-front : tie.Need-mul-copy-front
+mul-copy-front c = search needs
+
+sub-copy-front : tie.Need-sub-copy-front
+sub-copy-front c = search needs
+
+part-copy-front-start : tie.Need-part-copy-front-start
+part-copy-front-start c = search needs
+
+part-copy-front-end : tie.Need-part-copy-front-end
+part-copy-front-end c = search needs
+
+sub-copy-front-2 : tie.Need-sub-copy-front-2
+sub-copy-front-2 c = search needs
+
+part-copy-front-start-2 : tie.Need-part-copy-front-start-2
+part-copy-front-start-2 c = search needs
+
+part-copy-front-end-2 : tie.Need-part-copy-front-end-2
+part-copy-front-end-2 c = search needs
+
+copy-front-requires : tie.Need-copy-front-requires
+copy-front-requires c κs = search needs
+
+mul-resolve-all : tie.Need-mul-resolve-all
+mul-resolve-all c = search needs
+
+sub-resolve-all : tie.Need-sub-resolve-all
+sub-resolve-all c = search needs
+
+part-resolve-all-start : tie.Need-part-resolve-all-start
+part-resolve-all-start c = search needs
+
+part-resolve-all-end : tie.Need-part-resolve-all-end
+part-resolve-all-end c = search needs
+
+resolve-all-requires : tie.Need-resolve-all-requires
+resolve-all-requires c κs =
+    let copy = c .before .before .before in
+    let start = copy .before .before .before .before .before .before .before .before in
+    outputs-within (start .args .table .now) (start .args .pairs .now) (copy .copy-front .last .1 .0) (start .pre .0 .formed .whole) (start .pre .1)
+    (copy .copy-front .ensures) (start .pre .0 .references)
+
+same-length : tie.Need-same-length
+same-length c = search needs
+
+returns : tie.Need-returns
+returns c =
+    let words = c .before .before in
+    let copy = words .before .before .before .before in
+    let start = copy .before .before .before .before .before .before .before .before in
+    outputs-resolved (start .args .table .now) (start .args .pairs .now) (copy .copy-front .last .1 .0) (start .pre .0 .formed .whole) (start .pre .1)
+    (copy .copy-front .ensures) (words .resolve-all .last .0) (words .resolve-all .ensures)
+
+pub copy-out-spec : {M : Type 1} → statement M
+copy-out-spec =
+    tie.close
+    (tie.spec
+    slice-read-made
+    cast-made
+    slice-read-outputs
+    cast-outputs
+    slice-read-first
+    cast-first
+    add-first
+    mul-first
+    mul-from
+    add-from
+    mul-end
+    add-end
+    mul-copy-front
+    sub-copy-front
+    part-copy-front-start
+    part-copy-front-end
+    sub-copy-front-2
+    part-copy-front-start-2
+    part-copy-front-end-2
+    copy-front-requires
+    mul-resolve-all
+    sub-resolve-all
+    part-resolve-all-start
+    part-resolve-all-end
+    resolve-all-requires
+    same-length
+    returns)

@@ -1,0 +1,53 @@
+-- What the arguments of compare and what it leaves stand for.
+use Prim.Native.Nat.{ℕ}
+use Rattle.compare_model.specs.Compare.{Given, Left, Room}
+use Rattle.compare_model.specs.declared.Limits.{Limits as Asked}
+use Rattle.compare_parts.specs.declared.refusal.Lengths.{Lengths}
+use Rattle.sweep.specs.declared.Ended.{Ended}
+use Rattle.sweep_model.specs.State.{Limits}
+use Rattle.sweep_model.specs.declared.Counts.{Counts}
+use Rattle.sweep_model.specs.declared.Reply.{Reply}
+use lib.ListN.{length}
+use mathlib.Core.List.{List}
+use mathlib.Core.Path.{_≡_}
+
+-- The three limits.
+abbrev pub limitsOf : Asked → Limits
+limitsOf l = record { size = l .size; rows = l .rows; steps = l .steps }
+
+-- The lengths of the working slices.
+abbrev pub roomOf : Lengths → Room
+roomOf l = record { pairs = l .pairs; look = l .look; diagrams = l .diagrams; stages = l .stages; rows = l .rows }
+
+-- The same, by the lists that the slices hold.
+abbrev pub roomOfLists : List ℕ → List ℕ → List ℕ → List ℕ → List ℕ → Room
+roomOfLists pairs look diagrams stages rows =
+    record { pairs = length pairs; look = length look; diagrams = length diagrams; stages = length stages; rows = length rows }
+
+-- The arguments of compare, by the lists that its slices hold at the call.
+abbrev pub given : List ℕ → ℕ → Asked → List ℕ → List ℕ → List ℕ → List ℕ → List ℕ → List ℕ → List ℕ → Given
+given table output limits pairs look diagrams stages rows marks setting =
+    record {
+      table = table;
+      output = output;
+      limits = limitsOf limits;
+      room = roomOfLists pairs look diagrams stages rows;
+      marks = marks;
+      setting = setting;
+    }
+
+-- What it gives back, and what three of its slices then hold.
+abbrev pub left : Reply → List ℕ → List ℕ → List ℕ → Left
+left reply table marks setting = record { reply = reply; table = table; marks = marks; setting = setting }
+
+-- "refusals leaving all of them unchanged": the five slices to work in, before and after.
+pub record Unchanged (pairs pairs-after look look-after diagrams diagrams-after stages stages-after rows rows-after : List ℕ) : Type 0 where
+  pub pairs-kept : pairs-after ≡ pairs
+  pub look-kept : look-after ≡ look
+  pub diagrams-kept : diagrams-after ≡ diagrams
+  pub stages-kept : stages-after ≡ stages
+  pub rows-kept : rows-after ≡ rows
+
+-- The rows and steps that a reply carries.
+abbrev pub countsBy : Ended → Counts
+countsBy e = record { rows = e .used; steps = e .steps }
