@@ -3,7 +3,7 @@
 
 Writes CRATE/data/graphs.txt, the sweeps that the program `sweep_cases` runs, and CRATE/stdout, what it must print.
 
-COMPARISONS has a line for each comparison, with tabs between: list, left, right (lines parted by `;`, fields by `,`),
+COMPARISONS (tools/comparisons.tsv) has a line for each comparison, with tabs between: list, left, right (lines parted by `;`, fields by `,`),
 output, size limit, row limit, step limit, then what must come: reply, vertex, setting, rows, steps, marks (a digit for
 each vertex), the table's words. Lines with the same list number follow one another on one table.
 
