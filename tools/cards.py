@@ -2,7 +2,7 @@
 """cards.py COMPARISONS CRATE
 
 Writes CRATE/data/cards.txt, the cards that the program `cards` runs, and CRATE/stdout, what it prints when all are right.
-The cards are the paper's bench cards that are run and not proved, then every line of COMPARISONS.
+The cards are those of docs/RULES.md 11.7 and 13.3, then every line of COMPARISONS (tools/comparisons.tsv).
 
 COMPARISONS has a line for each comparison, with tabs between: list, left, right (lines parted by `;`, fields by `,`),
 output, size limit, row limit, step limit, then what must come: reply, vertex, setting, rows, steps, marks (a digit for
@@ -22,7 +22,7 @@ OR_AND = "N,1,2,3,1;G,or,2,4;G,and,2,4;G,and,6,9;O,10"
 AND_OR_WORDS = "2,2,1,2,4,3,5,6,9"
 
 # In the fields of COMPARISONS, with a name for the list number.
-PAPER = [
+RULES = [
     ("and/or", AND, OR, 0, 4096, 4096, 1000000, "different", "-", "01", 4, 6, "01111", AND_OR_WORDS),
     ("and/or, row limit 3", AND, OR, 0, 4096, 3, 1000000, "rows", 4, "-", 3, 6, "01113", AND_OR_WORDS),
     ("and/or, step limit 5", AND, OR, 0, 4096, 4096, 5, "steps", 4, "-", 3, 5, "01113", AND_OR_WORDS),
@@ -58,7 +58,7 @@ def card(fields, goes_on):
 def main(comparisons, crate):
     with open(comparisons) as file:
         lines = [line.rstrip("\n").split("\t") for line in file]
-    cards = [card(fields, False) for fields in PAPER]
+    cards = [card(fields, False) for fields in RULES]
     before = None
     for fields in lines:
         cards.append(card(["list " + fields[0]] + fields[1:], fields[0] == before))

@@ -3,9 +3,9 @@
 
 Writes CRATE/data/graphs.txt, the sweeps that the program `sweep_cases` runs, and CRATE/stdout, what it must print.
 
-COMPARISONS has a line for each comparison, with tabs between: list, left, right (lines parted by `;`, fields by `,`),
-output, size limit, row limit, step limit, then what must come: reply, vertex, setting, rows, steps, marks (a digit for
-each vertex), the table's words. Lines with the same list number follow one another on one table.
+COMPARISONS (tools/comparisons.tsv) has a line for each comparison, with tabs between: list, left, right (lines parted by `;`,
+fields by `,`), output, size limit, row limit, step limit, then what must come: reply, vertex, setting, rows, steps, marks (a digit
+for each vertex), the table's words. Lines with the same list number follow one another on one table.
 
 graphs.txt has a card for each comparison, with `%` between them, and each card's fields with `|` between them: list; how many
 vertices come first (the constant and the inputs) and how many there are; inputs; the two literals looked at; size limit, row limit, step
