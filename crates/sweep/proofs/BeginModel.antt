@@ -1,31 +1,32 @@
 -- The start of a sweep after the first normalising: the looks and the inputs' rows, as in the model.
 use Prim.Native.Nat.{_-_, ℕ}
 use Rattle.aig.specs.Literal.{negate}
-use Rattle.sweep_model.proofs.Steady.{Scanning, Unsettled, bothHave?, giving-scanning, leftNow, rightNow}
+use Rattle.sweep_model.proofs.Steady.{giving-scanning}
 use Rattle.sweep_model.specs.State.{Problem, State, literalFunction}
+use Rattle.sweep_model.specs.Steady.{Scanning, Unsettled, bothHave?, leftNow, rightNow}
 use Rattle.sweep_model.specs.Sweep.{Progress, Verdict, andThen, different, ends, equal, inputsFrom, look, lookAt, on, start, turnsLeft}
 use Rattle.sweep_model.specs.declared.Cause.the-variants.{Rows}
-use Rattle.sweep.proofs.EndModel.{looked-ends}
-use Rattle.sweep.proofs.LookModel.{look-models, look-refers, looks}
-use Rattle.sweep.specs.Ending.{Ends, verdictOf}
+use Rattle.sweep_parts.proofs.LookModel.{look-models, look-refers, looks}
+use Rattle.sweep_parts.specs.Ending.{Ends, verdictOf}
+use Rattle.sweep_parts.specs.Look.{Looks, SeenRefers, progressOf, seenBy}
+use Rattle.sweep_parts.specs.Meet.{Board, board}
+use Rattle.sweep_parts.specs.Represents.{Represents}
+use Rattle.sweep_parts.specs.Settle.{onBoard, stateOn}
+use Rattle.sweep_parts.specs.Sheets.{Sheets}
+use Rattle.sweep_parts.specs.Words.{posed}
+use Rattle.sweep_parts.specs.declared.end.End.the-variants.{Undecided}
+use Rattle.sweep_parts.specs.declared.end.End.{End}
+use Rattle.sweep_parts.specs.declared.look.Seen.the-variants.{Differ, Equal, Inverse, Nothing}
+use Rattle.sweep_parts.specs.declared.look.Seen.{Seen}
+use Rattle.sweep_parts.specs.declared.task.Task.{Task}
+use Rattle.sweep_turn.proofs.EndModel.{looked-ends}
+use Rattle.sweep_turn.specs.Visit.{goingBy}
+use Rattle.sweep_turn.specs.declared.visit.Going.the-variants.{Ended, On}
+use Rattle.sweep_turn.specs.declared.visit.Going.{Going}
 use Rattle.sweep.specs.Given.{AllGiven, Frame, Framed, GivenTo, GivesRows}
-use Rattle.sweep.specs.Inputs.{Sheets}
-use Rattle.sweep.specs.Look.{Looks, SeenRefers, progressOf, seenBy}
-use Rattle.sweep.specs.Meet.{Board, board}
-use Rattle.sweep.specs.Represents.{Represents}
-use Rattle.sweep.specs.Settle.{onBoard, stateOn}
 use Rattle.sweep.specs.Start.{GivesInputs, GivingIn, GoneOn, Poses, Prepared, Prepares, Starts, SweepAsked, inputsGiven}
-use Rattle.sweep.specs.Visit.{goingBy}
-use Rattle.sweep.specs.Words.{posed}
-use Rattle.sweep.specs.declared.end.End.the-variants.{Undecided}
-use Rattle.sweep.specs.declared.end.End.{End}
 use Rattle.sweep.specs.declared.inputs.Inputs.the-variants.{All, Short}
 use Rattle.sweep.specs.declared.inputs.Inputs.{Inputs}
-use Rattle.sweep.specs.declared.look.Seen.the-variants.{Differ, Equal, Inverse, Nothing}
-use Rattle.sweep.specs.declared.look.Seen.{Seen}
-use Rattle.sweep.specs.declared.task.Task.{Task}
-use Rattle.sweep.specs.declared.visit.Going.the-variants.{Ended, On}
-use Rattle.sweep.specs.declared.visit.Going.{Going}
 use Rattle.truth.specs.Settings.{firstDifference}
 use Rattle.truth.specs.Truth.{Truth, same?}
 use borrow.Author.Tests.{eqb-false}

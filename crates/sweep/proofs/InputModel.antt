@@ -9,19 +9,21 @@ use Rattle.product.specs.Product.{bookOf}
 use Rattle.product_model.specs.Run.{Book, addPart, addRow, done, shortOfRows}
 use Rattle.sweep_model.proofs.Inputs.{top-input}
 use Rattle.sweep_model.proofs.Reachable.{input-reachable}
-use Rattle.sweep_model.proofs.Steady.{Giving, giving-swept, inputRow}
+use Rattle.sweep_model.proofs.Steady.{giving-swept, inputRow}
 use Rattle.sweep_model.specs.State.{functionOf, has?}
+use Rattle.sweep_model.specs.Steady.{Giving}
 use Rattle.sweep_model.specs.Sweep.{Progress, andThen, ends, giveRow, inputsFrom, on, topPart, undecided}
 use Rattle.sweep_model.specs.declared.Cause.the-variants.{Rows}
-use Rattle.sweep.proofs.DrawModel.{Draws, drawn-represents, drawn-state}
-use Rattle.sweep.proofs.EndModel.{marked-closed, represents-closed}
-use Rattle.sweep.proofs.LookModel.{has-stage}
-use Rattle.sweep.specs.Ending.{verdictOf}
+use Rattle.sweep_parts.proofs.DrawModel.{Draws, drawn-represents, drawn-state}
+use Rattle.sweep_parts.proofs.LookModel.{has-stage}
+use Rattle.sweep_parts.specs.Ending.{verdictOf}
+use Rattle.sweep_parts.specs.Represents.{Represents}
+use Rattle.sweep_parts.specs.Sheets.{Sheets}
+use Rattle.sweep_parts.specs.Words.{Words, posed, stateOf}
+use Rattle.sweep_parts.specs.declared.task.Task.{Task}
+use Rattle.sweep_turn.proofs.EndModel.{marked-closed, represents-closed}
 use Rattle.sweep.specs.Given.{AllGiven, Frame, Framed, GivenTo, ShortAt, givingFrom, stateIn}
-use Rattle.sweep.specs.Inputs.{RowAsked, RowGiven, RowLacked, Sheets, levelOf}
-use Rattle.sweep.specs.Represents.{Represents}
-use Rattle.sweep.specs.Words.{Words, posed, stateOf}
-use Rattle.sweep.specs.declared.task.Task.{Task}
+use Rattle.sweep.specs.Inputs.{RowAsked, RowGiven, RowLacked, levelOf}
 use Rattle.truth.proofs.Parts.{constants-differ, size-input}
 use Rattle.truth.specs.Parts.{size}
 use Rattle.truth.specs.Truth.{Truth, input, node}

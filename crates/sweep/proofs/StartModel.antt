@@ -17,15 +17,15 @@ use Rattle.sweep_model.proofs.Steady.{begin-giving}
 use Rattle.sweep_model.specs.Normalise.{normalise, normaliseFrom}
 use Rattle.sweep_model.specs.State.{has?, opened}
 use Rattle.sweep_model.specs.Sweep.{begin}
-use Rattle.sweep.proofs.HandLaws.{Handed}
-use Rattle.sweep.proofs.NormaliseModel.{Normalises, normalised-represents, normalised-state, sound-graph}
-use Rattle.sweep.specs.Inputs.{sheets}
-use Rattle.sweep.specs.Meet.{Board, board, handedIn}
-use Rattle.sweep.specs.Represents.{Drawing}
-use Rattle.sweep.specs.Settle.{stateOn}
+use Rattle.sweep_parts.proofs.HandLaws.{Handed}
+use Rattle.sweep_parts.proofs.NormaliseModel.{Normalises, normalised-represents, normalised-state, sound-graph}
+use Rattle.sweep_parts.specs.Meet.{Board, board, handedIn}
+use Rattle.sweep_parts.specs.Represents.{Drawing}
+use Rattle.sweep_parts.specs.Settle.{stateOn}
+use Rattle.sweep_parts.specs.Sheets.{sheets}
+use Rattle.sweep_parts.specs.Words.{posed}
+use Rattle.sweep_parts.specs.declared.task.Task.{Task}
 use Rattle.sweep.specs.Start.{Poses, PreparedFrom, Prepares, SweepAsked}
-use Rattle.sweep.specs.Words.{posed}
-use Rattle.sweep.specs.declared.task.Task.{Task}
 use Rattle.truth.proofs.Booleans.{clash}
 use Rattle.truth.proofs.Parts.{size-constant}
 use Rattle.truth.specs.Parts.{size}

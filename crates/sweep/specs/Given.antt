@@ -1,18 +1,18 @@
 -- All inputs given their rows, as the model gives them.
 use Prim.Native.Nat.{_-_, ℕ}
-use Rattle.sweep_model.proofs.Steady.{Giving}
 use Rattle.sweep_model.specs.State.{State}
+use Rattle.sweep_model.specs.Steady.{Giving}
 use Rattle.sweep_model.specs.Sweep.{Progress, inputsFrom, on}
 use Rattle.sweep_model.specs.declared.Cause.the-variants.{Rows}
-use Rattle.sweep.specs.Ending.{Ends}
-use Rattle.sweep.specs.Inputs.{Sheets}
-use Rattle.sweep.specs.Meet.{board}
-use Rattle.sweep.specs.Represents.{Represents}
-use Rattle.sweep.specs.Words.{Words, posed, stateOf, words}
-use Rattle.sweep.specs.declared.end.End.the-variants.{Undecided}
+use Rattle.sweep_parts.specs.Ending.{Ends}
+use Rattle.sweep_parts.specs.Meet.{board}
+use Rattle.sweep_parts.specs.Represents.{Represents}
+use Rattle.sweep_parts.specs.Sheets.{Sheets}
+use Rattle.sweep_parts.specs.Words.{Words, posed, stateOf, words}
+use Rattle.sweep_parts.specs.declared.end.End.the-variants.{Undecided}
+use Rattle.sweep_parts.specs.declared.task.Task.{Task}
 use Rattle.sweep.specs.declared.inputs.Inputs.the-variants.{All, Short}
 use Rattle.sweep.specs.declared.inputs.Inputs.{Inputs}
-use Rattle.sweep.specs.declared.task.Task.{Task}
 use Rattle.truth.specs.Truth.{Truth}
 use mathlib.Core.List.{List}
 use mathlib.Core.Path.{_≡_}

@@ -1,27 +1,15 @@
 -- An input's row, by words.
-use Prim.Native.Nat.{_*_, _+_, _-_, _/_, _<_, _≤_, ℕ}
-use Rattle.aig.specs.Lookup.{withRow}
-use Rattle.bdd.specs.Owners.{withOwner}
+use Prim.Native.Nat.{_*_, _+_, _-_, _<_, _≤_, ℕ}
 use Rattle.bdd.specs.Rows.{MARK, RADIX}
 use Rattle.bdd.specs.Store.{Store}
 use Rattle.bdd.specs.Unique.{MadeAt, MadeFull}
-use Rattle.sweep_graph.specs.Stages.{withStage}
+use Rattle.sweep_parts.specs.Sheets.{Sheets, drawnAt, onRows, sheets}
+use Rattle.sweep_parts.specs.declared.task.Task.{Task}
 use Rattle.sweep.specs.declared.inputs.Given.the-variants.{Full, Row}
 use Rattle.sweep.specs.declared.inputs.Given.{Given}
-use Rattle.sweep.specs.declared.task.Task.{Task}
 use lib.ListN.{length, set}
 use mathlib.Core.List.{List}
 use mathlib.Core.Path.{_≡_}
-
--- The words of diagrams, stages and rows and the bytes of marks.
-pub record Sheets : Type 0 where
-  pub diagrams : List ℕ
-  pub stages : List ℕ
-  pub rows : List ℕ
-  pub marks : List ℕ
-
-abbrev pub sheets : List ℕ → List ℕ → List ℕ → List ℕ → Sheets
-sheets diagrams stages rows marks = record { diagrams = diagrams; stages = stages; rows = rows; marks = marks }
 
 -- What giving vertex v its row needs.
 pub record RowAsked (t : Task) (v used : ℕ) (a : Sheets) : Type 0 where
@@ -38,15 +26,6 @@ pub record RowAsked (t : Task) (v used : ℕ) (a : Sheets) : Type 0 where
 abbrev pub levelOf : Task → ℕ → ℕ
 levelOf t v = t .inputs + 1 - v
 
--- Vertex v has the diagram of a reference, owns its row, waits, and is marked 1.
-abbrev pub drawnAt : ℕ → ℕ → ℕ → Sheets → Sheets
-drawnAt v reference size a =
-    sheets (withRow (a .diagrams) v reference size) (withStage (a .stages) v 1) (withOwner (a .rows) (reference / 2) v) (set (a .marks) v 1)
-
--- The sheets with other rows.
-abbrev pub onRows : List ℕ → Sheets → Sheets
-onRows rows a = sheets (a .diagrams) (a .stages) rows (a .marks)
-
 -- The row was made, or found, and is drawn.
 pub record RowGiven (t : Task) (v used : ℕ) (a b : Sheets) (more : ℕ) : Type 0 where
   pub rows : List ℕ
@@ -60,6 +39,7 @@ pub record RowLacked (t : Task) (v used : ℕ) (a b : Sheets) : Type 0 where
   pub full : MadeFull (a .rows) (b .rows) (t .rows) used (levelOf t v) 0 1
   pub marked : b ≡ sheets (a .diagrams) (a .stages) (a .rows) (set (a .marks) v 3)
 
+-- The row of input v was given, or none was left.
 abbrev pub Gives : Task → ℕ → ℕ → Sheets → Sheets → Given → Type 0
 Gives t v used a b (Row more) = RowGiven t v used a b more
 Gives t v used a b Full = RowLacked t v used a b

@@ -1,20 +1,19 @@
 -- The start of a sweep, as in the model.
 use Prim.Native.Nat.{_*_, _-_, _<_, _^_, _≤_, ℕ}
 use Rattle.bdd.specs.Rows.{LIMIT, MARK, RADIX}
-use Rattle.sweep_model.proofs.Steady.{Giving}
 use Rattle.sweep_model.specs.Fit.{Fit}
 use Rattle.sweep_model.specs.Normalise.{normalise}
-use Rattle.sweep_model.specs.Sweep.{Progress, andThen, begin, inputsFrom, look, on, start, turnsLeft}
-use Rattle.sweep.specs.Ending.{Ends}
-use Rattle.sweep.specs.Meet.{Board}
-use Rattle.sweep.specs.Multiply.{Scene}
-use Rattle.sweep.specs.Represents.{Represents}
-use Rattle.sweep.specs.Settle.{onBoard, stateOn}
-use Rattle.sweep.specs.Turn.{RestOn}
-use Rattle.sweep.specs.Words.{posed}
-use Rattle.sweep.specs.declared.task.Task.{Task}
-use Rattle.sweep.specs.declared.visit.Going.the-variants.{Ended, On}
-use Rattle.sweep.specs.declared.visit.Going.{Going}
+use Rattle.sweep_model.specs.Steady.{Giving}
+use Rattle.sweep_model.specs.Sweep.{Progress, andThen, begin, inputsFrom, look, on, start}
+use Rattle.sweep_parts.specs.Ending.{Ends}
+use Rattle.sweep_parts.specs.Meet.{Board}
+use Rattle.sweep_parts.specs.Represents.{Represents}
+use Rattle.sweep_parts.specs.Settle.{onBoard, stateOn}
+use Rattle.sweep_parts.specs.Words.{posed}
+use Rattle.sweep_parts.specs.declared.task.Task.{Task}
+use Rattle.sweep_turn.specs.Turn.{RestOn, firstScene}
+use Rattle.sweep_turn.specs.declared.visit.Going.the-variants.{Ended, On}
+use Rattle.sweep_turn.specs.declared.visit.Going.{Going}
 use Rattle.truth.specs.Truth.{Truth}
 use lib.ListN.{length}
 use mathlib.Core.List.{List}
@@ -63,10 +62,6 @@ abbrev pub inputsGiven : Task → List Truth → Board → Progress
 inputsGiven t functions b =
     let p = posed t functions in
     andThen (inputsFrom p 1 (t .first - 1) (stateOn t b 0 0)) (look p)
-
--- The scene of the first turn.
-abbrev pub firstScene : Task → List Truth → List ℕ → Board → ℕ → ℕ → Scene
-firstScene t functions entry b used steps = record { functions = functions; entry = entry; turns = turnsLeft (stateOn t b used steps .stages) }
 
 -- The model has gone on to these words, and the first turn can begin.
 pub record GoneOn (t : Task) (functions : List Truth) (entry : List ℕ) (o : Progress) (after : Board) (used steps : ℕ) : Type 0 where

@@ -1,19 +1,19 @@
 // The start of a sweep: up to the first turn.
-use crate::end::End;
 use crate::inputs::Inputs;
 use crate::inputs::give_rows;
-use crate::look::Seen;
-use crate::look::look;
-use crate::task::Task;
-use crate::visit::Going;
-use crate::visit::after_look;
 use bdd::unique::clear;
 use sweep_graph::begin::begin;
 use sweep_graph::normalise::normalise;
 use sweep_graph::take::takes;
 use sweep_model::Cause;
-ghost use Rattle.sweep.specs.Inputs.{sheets};
-ghost use Rattle.sweep.specs.Meet.{board};
+use sweep_parts::end::End;
+use sweep_parts::look::Seen;
+use sweep_parts::look::look;
+use sweep_parts::task::Task;
+use sweep_turn::visit::Going;
+use sweep_turn::visit::after_look;
+ghost use Rattle.sweep_parts.specs.Meet.{board};
+ghost use Rattle.sweep_parts.specs.Sheets.{sheets};
 ghost use Rattle.sweep.specs.Start.{GivesInputs, GivingIn, Prepares, Starts, SweepAsked};
 
 // No row is used, no vertex but the constant has a diagram, all marks are 0; and the rows of the graph are normalised.

@@ -25,13 +25,19 @@ enum-known-made c = search needs
 
 cast-draw : tie.Need-cast-draw
 cast-draw c =
-    let made : MadeAt (c .before .before .before .before .before .before .before .before .before .before .before .before .before .before .before .before .args .rows .now) (c .before .before .before .before .before .before .before .before .before .make .last .0) (c .before .before .before .before .before .before .before .before .before .before .before .before .before .before .before .before .args .task .rows) (c .before .before .before .before .before .before .before .before .before .before .before .before .before .before .before .before .args .used) (levelOf (c .before .before .before .before .before .before .before .before .before .before .before .before .before .before .before .before .args .task) (c .before .before .before .before .before .before .before .before .before .before .before .before .before .before .before .before .args .v)) 0 1 (c .before .before .before .before .before .made .given .0 .0) (c .before .before .before .before .before .made .given .0 .1 .0) = rw (c .before .before .before .before .before .made .given .1) at (c .before .before .before .before .before .before .before .before .before .make .ensures) in
+    let arm = c .before .before .before .before .before .made in
+    let make = c .before .before .before .before .before .before .before .before .before .make in
+    let start = c .before .before .before .before .before .before .before .before .before .before .before .before .before .before .before .before in
+    let made : MadeAt (start .args .rows .now) (make .last .0) (start .args .task .rows) (start .args .used) (levelOf (start .args .task) (start .args .v)) 0 1 (arm .given .0 .0) (arm .given .0 .1 .0) = rw (arm .given .1) at (make .ensures) in
     omega (arith, made-small made)
 
 draw-requires : tie.Need-draw-requires
 draw-requires c κs =
-    let made : MadeAt (c .before .before .before .before .before .before .before .before .before .before .before .before .before .before .before .before .args .rows .now) (c .before .before .before .before .before .before .before .before .before .make .last .0) (c .before .before .before .before .before .before .before .before .before .before .before .before .before .before .before .before .args .task .rows) (c .before .before .before .before .before .before .before .before .before .before .before .before .before .before .before .before .args .used) (levelOf (c .before .before .before .before .before .before .before .before .before .before .before .before .before .before .before .before .args .task) (c .before .before .before .before .before .before .before .before .before .before .before .before .before .before .before .before .args .v)) 0 1 (c .before .before .before .before .before .made .given .0 .0) (c .before .before .before .before .before .made .given .0 .1 .0) = rw (c .before .before .before .before .before .made .given .1) at (c .before .before .before .before .before .before .before .before .before .make .ensures) in
-    let q = c .before .before .before .before .before .before .before .before .before .before .before .before .before .before .before .before .pre in
+    let arm = c .before .before .before .before .before .made in
+    let make = c .before .before .before .before .before .before .before .before .before .make in
+    let start = c .before .before .before .before .before .before .before .before .before .before .before .before .before .before .before .before in
+    let made : MadeAt (start .args .rows .now) (make .last .0) (start .args .task .rows) (start .args .used) (levelOf (start .args .task) (start .args .v)) 0 1 (arm .given .0 .0) (arm .given .0 .1 .0) = rw (arm .given .1) at (make .ensures) in
+    let q = start .pre in
     ((q .diagram-within, (q .stage-within, q .mark-within)), (made-within made, q .few))
 
 enum-told : tie.Need-enum-told

@@ -1,10 +1,10 @@
 -- Invariant: the inputs below v have their rows, and the model goes on from there as it went from the first.
 -- The measure is what is left of the first vertices.
 use Prim.Native.Nat.{_-_}
+use Rattle.sweep_parts.specs.Sheets.{sheets}
 use Rattle.sweep.proofs.InputModel.{Along, along-asks, along-begins, along-ends, along-goes-on, along-short}
 use Rattle.sweep.proofs.inputs.give_rows.Statement.{statement}
 use Rattle.sweep.proofs.inputs.give_rows.Tie as tie
-use Rattle.sweep.specs.Inputs.{sheets}
 use borrow.Author.Needs.{needs}
 use native.Mathlib.Omega.{arith}
 
