@@ -1,5 +1,1 @@
-pub mod BeginModel
-pub mod InputLaws
-pub mod InputModel
-pub mod StartModel
 pub mod SweepModel

@@ -10,11 +10,11 @@ use Rattle.sweep_parts.specs.declared.end.End.the-variants.{Undecided}
 use Rattle.sweep_parts.specs.declared.end.End.{End}
 use Rattle.sweep_parts.specs.declared.end.Ended as result
 use Rattle.sweep_parts.specs.declared.task.Task.{Task}
+use Rattle.sweep_start.specs.Start.{Starts, SweepAsked}
 use Rattle.sweep_turn.proofs.EndModel.{represents-closed}
 use Rattle.sweep_turn.specs.Turn.{Goes, RestIn, firstScene}
 use Rattle.sweep_turn.specs.declared.visit.Going.the-variants.{Ended, On}
 use Rattle.sweep_turn.specs.declared.visit.Going.{Going}
-use Rattle.sweep.specs.Start.{Starts, SweepAsked}
 use Rattle.sweep.specs.Sweep.{Rests, Sweeps}
 use mathlib.Core.List.{List}
 use mathlib.Core.Path.{_∙_, _≡_, ap, subst}

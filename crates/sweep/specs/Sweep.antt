@@ -7,9 +7,9 @@ use Rattle.sweep_parts.specs.Settle.{stateOn}
 use Rattle.sweep_parts.specs.Words.{posed}
 use Rattle.sweep_parts.specs.declared.end.Ended.{Ended}
 use Rattle.sweep_parts.specs.declared.task.Task.{Task}
+use Rattle.sweep_start.specs.Start.{Poses}
 use Rattle.sweep_step.specs.Multiply.{Scene}
 use Rattle.sweep_turn.specs.Turn.{RestOn, gone}
-use Rattle.sweep.specs.Start.{Poses}
 use Rattle.truth.specs.Truth.{Truth}
 use mathlib.Core.List.{List}
 use mathlib.Core.Path.{_≡_}

@@ -1,19 +1,16 @@
 // The sweep's code on the working graph: it knows no table header and no file.
-pub mod inputs;
-pub mod start;
-
-use crate::start::start;
 use sweep_parts::cause::cause;
 use sweep_parts::end::End;
 use sweep_parts::end::Ended;
 use sweep_parts::task::Task;
+use sweep_start::start::start;
 use sweep_turn::turn::go;
 use sweep_turn::visit::Going;
 ghost use Prim.Native.Nat.{_*_, _≤_};
 ghost use Rattle.sweep_parts.specs.Meet.{board};
 ghost use Rattle.sweep_parts.specs.Sheets.{sheets};
+ghost use Rattle.sweep_start.specs.Start.{SweepAsked};
 ghost use Rattle.sweep_turn.specs.Turn.{RestIn};
-ghost use Rattle.sweep.specs.Start.{SweepAsked};
 ghost use Rattle.sweep.specs.Sweep.{Rests, Sweeps};
 ghost use lib.ListN.{length};
 

@@ -14,7 +14,7 @@ use sweep_turn::visit::Going;
 use sweep_turn::visit::after_look;
 ghost use Rattle.sweep_parts.specs.Meet.{board};
 ghost use Rattle.sweep_parts.specs.Sheets.{sheets};
-ghost use Rattle.sweep.specs.Start.{GivesInputs, GivingIn, Prepares, Starts, SweepAsked};
+ghost use Rattle.sweep_start.specs.Start.{GivesInputs, GivingIn, Prepares, Starts, SweepAsked};
 
 // No row is used, no vertex but the constant has a diagram, all marks are 0; and the rows of the graph are normalised.
 fn prepare(

@@ -2,9 +2,9 @@
 -- One law for each answer, for all functions and entry rows.
 use Rattle.sweep_parts.specs.Meet.{board}
 use Rattle.sweep_parts.specs.Sheets.{sheets}
-use Rattle.sweep.proofs.BeginModel.{given-goes, given-looks, given-short, giving-framed}
-use Rattle.sweep.proofs.start.give_inputs.Statement.{statement}
-use Rattle.sweep.proofs.start.give_inputs.Tie as tie
+use Rattle.sweep_start.proofs.BeginModel.{given-goes, given-looks, given-short, giving-framed}
+use Rattle.sweep_start.proofs.start.give_inputs.Statement.{statement}
+use Rattle.sweep_start.proofs.start.give_inputs.Tie as tie
 use borrow.Author.Needs.{needs}
 
 give-rows-requires : tie.Need-give-rows-requires

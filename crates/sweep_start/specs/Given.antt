@@ -11,8 +11,8 @@ use Rattle.sweep_parts.specs.Sheets.{Sheets}
 use Rattle.sweep_parts.specs.Words.{Words, posed, stateOf, words}
 use Rattle.sweep_parts.specs.declared.end.End.the-variants.{Undecided}
 use Rattle.sweep_parts.specs.declared.task.Task.{Task}
-use Rattle.sweep.specs.declared.inputs.Inputs.the-variants.{All, Short}
-use Rattle.sweep.specs.declared.inputs.Inputs.{Inputs}
+use Rattle.sweep_start.specs.declared.inputs.Inputs.the-variants.{All, Short}
+use Rattle.sweep_start.specs.declared.inputs.Inputs.{Inputs}
 use Rattle.truth.specs.Truth.{Truth}
 use mathlib.Core.List.{List}
 use mathlib.Core.Path.{_≡_}

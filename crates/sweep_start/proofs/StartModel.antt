@@ -25,7 +25,7 @@ use Rattle.sweep_parts.specs.Settle.{stateOn}
 use Rattle.sweep_parts.specs.Sheets.{sheets}
 use Rattle.sweep_parts.specs.Words.{posed}
 use Rattle.sweep_parts.specs.declared.task.Task.{Task}
-use Rattle.sweep.specs.Start.{Poses, PreparedFrom, Prepares, SweepAsked}
+use Rattle.sweep_start.specs.Start.{Poses, PreparedFrom, Prepares, SweepAsked}
 use Rattle.truth.proofs.Booleans.{clash}
 use Rattle.truth.proofs.Parts.{size-constant}
 use Rattle.truth.specs.Parts.{size}

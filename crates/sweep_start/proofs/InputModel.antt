@@ -21,9 +21,9 @@ use Rattle.sweep_parts.specs.Represents.{Represents}
 use Rattle.sweep_parts.specs.Sheets.{Sheets}
 use Rattle.sweep_parts.specs.Words.{Words, posed, stateOf}
 use Rattle.sweep_parts.specs.declared.task.Task.{Task}
+use Rattle.sweep_start.specs.Given.{AllGiven, Frame, Framed, GivenTo, ShortAt, givingFrom, stateIn}
+use Rattle.sweep_start.specs.Inputs.{RowAsked, RowGiven, RowLacked, levelOf}
 use Rattle.sweep_turn.proofs.EndModel.{marked-closed, represents-closed}
-use Rattle.sweep.specs.Given.{AllGiven, Frame, Framed, GivenTo, ShortAt, givingFrom, stateIn}
-use Rattle.sweep.specs.Inputs.{RowAsked, RowGiven, RowLacked, levelOf}
 use Rattle.truth.proofs.Parts.{constants-differ, size-input}
 use Rattle.truth.specs.Parts.{size}
 use Rattle.truth.specs.Truth.{Truth, input, node}

@@ -19,14 +19,14 @@ use Rattle.sweep_parts.specs.declared.end.End.{End}
 use Rattle.sweep_parts.specs.declared.look.Seen.the-variants.{Differ, Equal, Inverse, Nothing}
 use Rattle.sweep_parts.specs.declared.look.Seen.{Seen}
 use Rattle.sweep_parts.specs.declared.task.Task.{Task}
+use Rattle.sweep_start.specs.Given.{AllGiven, Frame, Framed, GivenTo, GivesRows}
+use Rattle.sweep_start.specs.Start.{GivesInputs, GivingIn, GoneOn, Poses, Prepared, Prepares, Starts, SweepAsked, inputsGiven}
+use Rattle.sweep_start.specs.declared.inputs.Inputs.the-variants.{All, Short}
+use Rattle.sweep_start.specs.declared.inputs.Inputs.{Inputs}
 use Rattle.sweep_turn.proofs.EndModel.{looked-ends}
 use Rattle.sweep_turn.specs.Visit.{goingBy}
 use Rattle.sweep_turn.specs.declared.visit.Going.the-variants.{Ended, On}
 use Rattle.sweep_turn.specs.declared.visit.Going.{Going}
-use Rattle.sweep.specs.Given.{AllGiven, Frame, Framed, GivenTo, GivesRows}
-use Rattle.sweep.specs.Start.{GivesInputs, GivingIn, GoneOn, Poses, Prepared, Prepares, Starts, SweepAsked, inputsGiven}
-use Rattle.sweep.specs.declared.inputs.Inputs.the-variants.{All, Short}
-use Rattle.sweep.specs.declared.inputs.Inputs.{Inputs}
 use Rattle.truth.specs.Settings.{firstDifference}
 use Rattle.truth.specs.Truth.{Truth, same?}
 use borrow.Author.Tests.{eqb-false}

@@ -1,8 +1,8 @@
 -- Each call's needs follow from what was asked and from what the calls before it left.
 -- The words that are left stand for the model's state after its first normalising.
-use Rattle.sweep.proofs.StartModel.{start-graph, start-held, start-kept, start-prepares}
-use Rattle.sweep.proofs.start.prepare.Statement.{statement}
-use Rattle.sweep.proofs.start.prepare.Tie as tie
+use Rattle.sweep_start.proofs.StartModel.{start-graph, start-held, start-kept, start-prepares}
+use Rattle.sweep_start.proofs.start.prepare.Statement.{statement}
+use Rattle.sweep_start.proofs.start.prepare.Tie as tie
 use borrow.Author.Needs.{needs}
 
 clear-requires : tie.Need-clear-requires

@@ -2,9 +2,9 @@
 -- One law for each way, for all functions.
 use Rattle.sweep_parts.specs.Meet.{board}
 use Rattle.sweep_parts.specs.Sheets.{sheets}
-use Rattle.sweep.proofs.BeginModel.{prepared-giving, prepared-looks, start-ends, start-gives}
-use Rattle.sweep.proofs.start.start.Statement.{statement}
-use Rattle.sweep.proofs.start.start.Tie as tie
+use Rattle.sweep_start.proofs.BeginModel.{prepared-giving, prepared-looks, start-ends, start-gives}
+use Rattle.sweep_start.proofs.start.start.Statement.{statement}
+use Rattle.sweep_start.proofs.start.start.Tie as tie
 use borrow.Author.Needs.{needs}
 use mathlib.Core.Logic.{⊎-elim}
 use native.Mathlib.Omega.{arith}

@@ -5,8 +5,8 @@ use Rattle.bdd.specs.Store.{Store}
 use Rattle.bdd.specs.Unique.{MadeAt, MadeFull}
 use Rattle.sweep_parts.specs.Sheets.{Sheets, drawnAt, onRows, sheets}
 use Rattle.sweep_parts.specs.declared.task.Task.{Task}
-use Rattle.sweep.specs.declared.inputs.Given.the-variants.{Full, Row}
-use Rattle.sweep.specs.declared.inputs.Given.{Given}
+use Rattle.sweep_start.specs.declared.inputs.Given.the-variants.{Full, Row}
+use Rattle.sweep_start.specs.declared.inputs.Given.{Given}
 use lib.ListN.{length, set}
 use mathlib.Core.List.{List}
 use mathlib.Core.Path.{_≡_}

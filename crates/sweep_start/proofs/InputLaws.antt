@@ -5,7 +5,7 @@ use Rattle.bdd.proofs.MakeLaws.{MakeAsked}
 use Rattle.bdd.specs.Unique.{MadeAt}
 use Rattle.sweep_parts.specs.Sheets.{Sheets}
 use Rattle.sweep_parts.specs.declared.task.Task.{Task}
-use Rattle.sweep.specs.Inputs.{RowAsked, levelOf}
+use Rattle.sweep_start.specs.Inputs.{RowAsked, levelOf}
 use lib.ListN.{length}
 use mathlib.Core.List.{List}
 use mathlib.Core.Path.{refl}
