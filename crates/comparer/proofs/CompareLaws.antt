@@ -5,12 +5,12 @@ use Rattle.comparer.specs.Code.{left}
 use Rattle.comparer.specs.Compare.{Given, answerTo, answered, callTests, compared, refusalOf, settingLeft, tableLeft, turnedBack}
 use Rattle.comparer.specs.Passed.{Passed}
 use Rattle.comparer.specs.Work.{Finishes, Ran, countsBy}
-use Rattle.sweep.specs.Ending.{verdictOf}
-use Rattle.sweep.specs.declared.Ended.{Ended}
 use Rattle.sweep_model.specs.Reply.{countsOf, replyOf, replyWith}
 use Rattle.sweep_model.specs.Sweep.{Verdict}
 use Rattle.sweep_model.specs.declared.Reply.the-variants.{Refused}
 use Rattle.sweep_model.specs.declared.Reply.{Reply}
+use Rattle.sweep_parts.specs.Ending.{verdictOf}
+use Rattle.sweep_parts.specs.declared.end.Ended.{Ended}
 use Rattle.table.specs.Refusals.{firstRefusal}
 use Rattle.table.specs.Table.{inputsOf, tableTests, verticesOf}
 use lib.ListN.{length, take}

@@ -4,11 +4,11 @@ use Rattle.bdd.specs.Store.{Store}
 use Rattle.comparer.specs.Code.{limitsOf}
 use Rattle.comparer.specs.Compare.{Given, answerTo, maxRows, maxSteps, overFront, problemOf}
 use Rattle.comparer.specs.declared.Limits.{Limits as Asked}
-use Rattle.sweep.specs.Ending.{Refers, verdictOf}
-use Rattle.sweep.specs.Words.{posed}
-use Rattle.sweep.specs.declared.Ended.{Ended}
-use Rattle.sweep.specs.declared.task.Task.{Task}
 use Rattle.sweep_model.specs.declared.Counts.{Counts}
+use Rattle.sweep_parts.specs.Ending.{Refers, verdictOf}
+use Rattle.sweep_parts.specs.Words.{posed}
+use Rattle.sweep_parts.specs.declared.end.Ended.{Ended}
+use Rattle.sweep_parts.specs.declared.task.Task.{Task}
 use Rattle.table.specs.Accepted.{Accepted}
 use Rattle.table.specs.Table.{functionsOf, graphOf, inputsOf, verticesOf}
 use lib.ListN.{length, take}

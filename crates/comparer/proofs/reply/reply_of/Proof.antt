@@ -2,8 +2,8 @@
 -- Each rewrites with the end.
 use Rattle.comparer.proofs.reply.reply_of.Statement.{statement}
 use Rattle.comparer.proofs.reply.reply_of.Tie as tie
-use Rattle.sweep.specs.Ending.{verdictOf}
 use Rattle.sweep_model.specs.Reply.{replyWith}
+use Rattle.sweep_parts.specs.Ending.{verdictOf}
 use borrow.Author.Needs.{needs}
 use mathlib.Core.Path.{refl}
 

@@ -3,7 +3,7 @@
 use Rattle.comparer.proofs.reply.write_setting.Statement.{statement}
 use Rattle.comparer.proofs.reply.write_setting.Tie as tie
 use Rattle.comparer.specs.Compare.{settingLeft}
-use Rattle.sweep.specs.Ending.{verdictOf}
+use Rattle.sweep_parts.specs.Ending.{verdictOf}
 use borrow.Author.Needs.{needs}
 use mathlib.Core.Path.{refl}
 
