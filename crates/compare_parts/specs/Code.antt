@@ -3,7 +3,7 @@ use Prim.Native.Nat.{ℕ}
 use Rattle.compare_model.specs.Compare.{Given, Left, Room}
 use Rattle.compare_model.specs.declared.Limits.{Limits as Asked}
 use Rattle.compare_parts.specs.declared.refusal.Lengths.{Lengths}
-use Rattle.sweep.specs.declared.Ended.{Ended}
+use Rattle.sweep_parts.specs.declared.end.Ended.{Ended}
 use Rattle.sweep_model.specs.State.{Limits}
 use Rattle.sweep_model.specs.declared.Counts.{Counts}
 use Rattle.sweep_model.specs.declared.Reply.{Reply}

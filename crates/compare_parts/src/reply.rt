@@ -1,15 +1,15 @@
 // How a sweep ended, as the reply and the setting.
 use crate::setting::write_difference;
 use crate::setting::write_zeros;
-use sweep::Ended;
-use sweep::end::End;
 use sweep_model::Counts;
 use sweep_model::Reply;
+use sweep_parts::end::End;
+use sweep_parts::end::Ended;
 ghost use Prim.Native.Nat.{_≤_, ℕ};
 ghost use Rattle.bdd.specs.Store.{Store};
 ghost use Rattle.compare_model.specs.Compare.{maxRows, maxSteps, settingLeft};
 ghost use Rattle.compare_parts.specs.Code.{countsBy};
-ghost use Rattle.sweep.specs.Ending.{Refers, verdictOf};
+ghost use Rattle.sweep_parts.specs.Ending.{Refers, verdictOf};
 ghost use Rattle.sweep_model.specs.Reply.{replyWith};
 ghost use lib.ListN.{length};
 ghost use mathlib.Core.List.{List};

@@ -5,8 +5,8 @@ use Rattle.compare_parts.specs.Code.{countsBy, left}
 use Rattle.compare_model.specs.Compare.{Given, answerTo, answered, callTests, compared, refusalOf, settingLeft, tableLeft, turnedBack}
 use Rattle.compare_model.specs.Passed.{Passed}
 use Rattle.comparer.specs.Work.{Finishes, Ran}
-use Rattle.sweep.specs.Ending.{verdictOf}
-use Rattle.sweep.specs.declared.Ended.{Ended}
+use Rattle.sweep_parts.specs.Ending.{verdictOf}
+use Rattle.sweep_parts.specs.declared.end.Ended.{Ended}
 use Rattle.sweep_model.specs.Reply.{countsOf, replyOf, replyWith}
 use Rattle.sweep_model.specs.Sweep.{Verdict}
 use Rattle.sweep_model.specs.declared.Reply.the-variants.{Refused}

@@ -7,13 +7,13 @@ use Rattle.compare_model.specs.Compare.{answerTo, graphWords, overFront, proble
 use Rattle.compare_model.specs.Passed.{Enough, LimitsWithin}
 use Rattle.comparer.specs.Work.{Posed, Ran}
 use Rattle.compare_model.specs.declared.Limits.{Limits}
-use Rattle.sweep.specs.Ending.{verdictOf}
-use Rattle.sweep.specs.Inputs.{sheets}
-use Rattle.sweep.specs.Meet.{Board, board}
-use Rattle.sweep.specs.Start.{Poses, SweepAsked}
+use Rattle.sweep_parts.specs.Ending.{verdictOf}
+use Rattle.sweep_parts.specs.Sheets.{sheets}
+use Rattle.sweep_parts.specs.Meet.{Board, board}
+use Rattle.sweep_start.specs.Start.{Poses, SweepAsked}
 use Rattle.sweep.specs.Sweep.{Answers, Sweeps}
-use Rattle.sweep.specs.declared.Ended.{Ended}
-use Rattle.sweep.specs.declared.task.Task.{Task}
+use Rattle.sweep_parts.specs.declared.end.Ended.{Ended}
+use Rattle.sweep_parts.specs.declared.task.Task.{Task}
 use Rattle.sweep_model.proofs.Kept.{sweep-steady}
 use Rattle.sweep_model.specs.Fit.{Fit}
 use Rattle.sweep_model.specs.Sweep.{Answer, sweep}

@@ -4,10 +4,10 @@ use Rattle.bdd.specs.Store.{Store}
 use Rattle.compare_parts.specs.Code.{limitsOf}
 use Rattle.compare_model.specs.Compare.{Given, answerTo, maxRows, maxSteps, overFront, problemOf}
 use Rattle.compare_model.specs.declared.Limits.{Limits as Asked}
-use Rattle.sweep.specs.Ending.{Refers, verdictOf}
-use Rattle.sweep.specs.Words.{posed}
-use Rattle.sweep.specs.declared.Ended.{Ended}
-use Rattle.sweep.specs.declared.task.Task.{Task}
+use Rattle.sweep_parts.specs.Ending.{Refers, verdictOf}
+use Rattle.sweep_parts.specs.Words.{posed}
+use Rattle.sweep_parts.specs.declared.end.Ended.{Ended}
+use Rattle.sweep_parts.specs.declared.task.Task.{Task}
 use Rattle.table.specs.Accepted.{Accepted}
 use Rattle.table.specs.Table.{functionsOf, graphOf, inputsOf, verticesOf}
 use lib.ListN.{length, take}

@@ -1,6 +1,6 @@
 // What the sweep is asked.
 use compare_model::Limits;
-use sweep::task::Task;
+use sweep_parts::task::Task;
 ghost use Prim.Native.Nat.{_<_};
 ghost use Rattle.comparer.specs.Work.{Posed};
 ghost use Rattle.table.specs.Accepted.{WellFormed};

@@ -9,6 +9,7 @@ use Rattle.bdd.specs.Unique.{GivenBack, Grown}
 use Rattle.product_model.proofs.Ran as ran
 use Rattle.product_model.proofs.Run.{run-done, run-rows, run-steps}
 use Rattle.product_model.proofs.Store.{done-members, done-rows}
+use Rattle.product_model.specs.Books.{Proper, Stored}
 use Rattle.product.specs.Product.{Ask, Multiplied, Multiplies, bookOf}
 use Rattle.product.specs.declared.Product.the-variants.{Done, ShortOfRows, ShortOfSteps}
 use Rattle.product.specs.declared.Product.{Product}
@@ -50,7 +51,7 @@ pub record OutOfSteps (s : List ℕ) (f g left steps most k : ℕ) : Type 0 wher
 
 module _ {s : List ℕ} {limit used f g left steps most : ℕ} (K : Ask s limit used f g left steps most) where
   -- The store is a book that a run may start from, and it has the parts of what is stored.
-  proper : ran.Proper limit most (bookOf s used steps)
+  proper : Proper limit most (bookOf s used steps)
   proper =
       record {
         no-repeats = store-apart s used (K .store .canonical) used (omega arith);
@@ -58,7 +59,7 @@ module _ {s : List ℕ} {limit used f g left steps most : ℕ} (K : Ask s limit 
         taken = K .under;
       }
 
-  stored : (r : ℕ) → Reference s used left r → ran.Stored (denote s left r) (storeOf s used)
+  stored : (r : ℕ) → Reference s used left r → Stored (denote s left r) (storeOf s used)
   stored r R = part-stored s used (K .store .canonical) left r R
 
   module _ {t : List ℕ} {u k : ℕ} where

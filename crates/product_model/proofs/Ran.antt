@@ -4,6 +4,7 @@ use Rattle.product_model.proofs.Cases.{Adding, Counting, add-cases, cou
 use Rattle.product_model.proofs.Conjunction.{parts-made, parts-passed, terminal-leaves, terminal-stored}
 use Rattle.product_model.proofs.Members.{within-append, within-left, within-none, within-one, within-right}
 use Rattle.product_model.proofs.Plain.{alike-plain, plain-false, plain-self}
+use Rattle.product_model.specs.Books.{Proper, Stored}
 use Rattle.product_model.specs.Run.{Book, Outcome, _andThen_, addPart, addRow, countStep, done, plain, run, shortOfRows, shortOfSteps, withStep}
 use Rattle.truth.proofs.Booleans.{or-left}
 use Rattle.truth.proofs.Distinct.{Within, among-congruent, apart-distinct, distinct-within}
@@ -20,21 +21,11 @@ use mathlib.Core.Logic.{⊎-elim}
 use mathlib.Core.Path.{_∙_, _≡_, ap, refl, sym}
 use native.Mathlib.Omega.{arith}
 
--- Every part of f has its row.
-abbrev pub Stored : Truth → List Truth → Type 0
-Stored f store = Within alike? (parts f) store
-
 -- Every function of the list is in plain form.
 abbrev pub Plain : List Truth → Type 0
 Plain fs = (f : Truth) → List·Memᴰ f fs → valueAt f [] ≡ false
 
 module _ (rowLimit stepLimit : ℕ) where
-  -- A book that a run may start from: no two rows serve one function, and neither count is past its limit.
-  pub record Proper (b : Book) : Type 0 where
-    pub no-repeats : apart alike? (b .store) ≡ true
-    pub rows : length (b .store) ≤ rowLimit
-    pub taken : b .steps ≤ stepLimit
-
   -- The book c comes from b: a proper book, whose store is that of b and, before it, functions in plain form that are alike to
   -- members of ps.
   pub record Grown (ps : List Truth) (b c : Book) : Type 0 where
@@ -42,7 +33,7 @@ module _ (rowLimit stepLimit : ℕ) where
     pub store : c .store ≡ added ++ b .store
     pub added-plain : Plain added
     pub added-parts : Within alike? added ps
-    pub proper : Proper c
+    pub proper : Proper rowLimit stepLimit c
 
   -- Done: n more steps, and every member of ps has its row.
   pub record Done (ps : List Truth) (n : ℕ) (b c : Book) : Type 0 where
@@ -72,7 +63,7 @@ module _ (rowLimit stepLimit : ℕ) where
     ran-steps : {c : Book} → ShortOfSteps ps n b c → Ran ps l n b (shortOfSteps c)
 
   -- A book with the same store.
-  unchanged : (ps : List Truth) {b c : Book} → Proper c → c .store ≡ b .store → Grown ps b c
+  unchanged : (ps : List Truth) {b c : Book} → Proper rowLimit stepLimit c → c .store ≡ b .store → Grown ps b c
   unchanged ps P e =
       record {
         added = [];
@@ -178,7 +169,7 @@ module _ (rowLimit stepLimit : ℕ) where
       ran-steps (record { grown = grown-as (within-left alike? ps qs) (S .grown); full = S .full; over = omega arith })
 
   -- One step, where the store has every member of ps already.
-  count-ran : (ps : List Truth) {b : Book} → Proper b → Within alike? ps (b .store) → Ran ps 1 1 b (countStep stepLimit b)
+  count-ran : (ps : List Truth) {b : Book} → Proper rowLimit stepLimit b → Within alike? ps (b .store) → Ran ps 1 1 b (countStep stepLimit b)
   count-ran ps {b} P w = go (count-cases stepLimit b)
     where
       go : {o : Outcome} → Counting stepLimit b o → Ran ps 1 1 b o
@@ -188,11 +179,11 @@ module _ (rowLimit stepLimit : ℕ) where
       go (spent h) = ran-steps (record { grown = unchanged ps P refl; full = omega arith; over = omega arith })
 
   -- No step, where the store has every member of ps already.
-  done-ran : (ps : List Truth) {b : Book} → Proper b → Within alike? ps (b .store) → Ran ps 0 0 b (done b)
+  done-ran : (ps : List Truth) {b : Book} → Proper rowLimit stepLimit b → Within alike? ps (b .store) → Ran ps 0 0 b (done b)
   done-ran ps P w = ran-done (record { grown = unchanged ps P refl; stored = w; steps = omega arith })
 
   -- One part.
-  pub add-ran : {b : Book} → Proper b → (f : Truth) → Ran (f ∷ []) 0 0 b (addPart rowLimit f b)
+  pub add-ran : {b : Book} → Proper rowLimit stepLimit b → (f : Truth) → Ran (f ∷ []) 0 0 b (addPart rowLimit f b)
   unfolding among apart distinct
   add-ran {b} P f = go (add-cases rowLimit f b)
     where
@@ -230,7 +221,7 @@ module _ (rowLimit stepLimit : ℕ) where
           })
 
   -- The row of a function with these halves.
-  row-ran : {b : Book} → Proper b → (low high : Truth) → Ran (cond (same? low high) [] (node low high ∷ [])) 0 0 b (addRow rowLimit low high b)
+  row-ran : {b : Book} → Proper rowLimit stepLimit b → (low high : Truth) → Ran (cond (same? low high) [] (node low high ∷ [])) 0 0 b (addRow rowLimit low high b)
   unfolding addRow
   row-ran {b} P low high = go (same? low high)
     where
@@ -247,7 +238,7 @@ module _ (rowLimit stepLimit : ℕ) where
   choose-ran false false f g h = h refl
 
   -- A run of two functions that have their rows.
-  pub run-ran : {m : ℕ} {f g : Truth} {b : Book} → Perfect m f → Perfect m g → Proper b → Stored f (b .store) → Stored g (b .store)
+  pub run-ran : {m : ℕ} {f g : Truth} {b : Book} → Perfect m f → Perfect m g → Proper rowLimit stepLimit b → Stored f (b .store) → Stored g (b .store)
       → Ran (parts (conj f g)) 1 (steps f g) b (run rowLimit stepLimit f g b)
   unfolding run conj
   run-ran {b = b} (whole {b = x}) (whole {b = y}) P v w =

@@ -1,7 +1,8 @@
 -- What the endings say of the store: which rows it has, and how many.
 use Prim.Native.Nat.{_<_, ℕ}
 use Rattle.product_model.proofs.Members.{apart-none, within-append}
-use Rattle.product_model.proofs.Ran.{Done, Grown, Proper, ShortOfRows, grown-from, kept}
+use Rattle.product_model.proofs.Ran.{Done, Grown, ShortOfRows, grown-from, kept}
+use Rattle.product_model.specs.Books.{Holds, Proper}
 use Rattle.product_model.specs.Run.{Book}
 use Rattle.truth.proofs.Booleans.{iff-equal}
 use Rattle.truth.proofs.Distinct.{Within, among-append, apart-distinct, distinct-same}
@@ -13,10 +14,6 @@ use lib.ListN.{length}
 use mathlib.Core.Bool.{_||_, or-comm}
 use mathlib.Core.List.{List, _++_, _∷_}
 use mathlib.Core.Path.{_∙_, _≡_, ap, sym}
-
--- The rows are the parts of these functions.
-pub record Holds (b : Book) (fs : List Truth) : Type 0 where
-  pub members : (t : Truth) → among alike? t (b .store) ≡ among alike? t (allParts fs)
 
 holds-more : (f : Truth) {b : Book} {fs : List Truth} → Holds b fs → (t : Truth) → among alike? t (parts f ++ b .store) ≡ among alike? t (allParts (f ∷ fs))
 unfolding allParts

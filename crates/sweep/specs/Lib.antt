@@ -1,15 +1,1 @@
-pub mod Words
-pub mod Look
-pub mod Inputs
-pub mod Represents
-pub mod Meet
-pub mod Operands
-pub mod Settle
-pub mod Ending
-pub mod Given
-pub mod Multiply
-pub mod Visit
-pub mod Scan
-pub mod Turn
-pub mod Start
 pub mod Sweep

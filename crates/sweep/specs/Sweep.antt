@@ -1,26 +1,18 @@
 -- The whole sweep, as in the model.
 use Prim.Native.Nat.{ℕ}
-use Rattle.sweep_graph.specs.Stages.{stagesOf}
-use Rattle.sweep_model.specs.Sweep.{Answer, answerOf, anyDropped?, sweep}
-use Rattle.sweep_model.specs.declared.Cause.the-variants.{Idle, Size}
-use Rattle.sweep_model.specs.declared.Cause.{Cause}
-use Rattle.sweep.specs.Ending.{Closed, verdictOf}
-use Rattle.sweep.specs.Meet.{Board}
-use Rattle.sweep.specs.Multiply.{Scene}
-use Rattle.sweep.specs.Settle.{stateOn}
-use Rattle.sweep.specs.Start.{Poses}
-use Rattle.sweep.specs.Turn.{RestOn, gone}
-use Rattle.sweep.specs.Words.{posed}
-use Rattle.sweep.specs.declared.Ended.{Ended}
-use Rattle.sweep.specs.declared.task.Task.{Task}
+use Rattle.sweep_model.specs.Sweep.{Answer, answerOf, sweep}
+use Rattle.sweep_parts.specs.Ending.{Closed, verdictOf}
+use Rattle.sweep_parts.specs.Meet.{Board}
+use Rattle.sweep_parts.specs.Settle.{stateOn}
+use Rattle.sweep_parts.specs.Words.{posed}
+use Rattle.sweep_parts.specs.declared.end.Ended.{Ended}
+use Rattle.sweep_parts.specs.declared.task.Task.{Task}
+use Rattle.sweep_start.specs.Start.{Poses}
+use Rattle.sweep_step.specs.Multiply.{Scene}
+use Rattle.sweep_turn.specs.Turn.{RestOn, gone}
 use Rattle.truth.specs.Truth.{Truth}
-use mathlib.Core.Bool.{cond}
 use mathlib.Core.List.{List}
 use mathlib.Core.Path.{_≡_}
-
--- "by Size (some vertex dropped, none waiting)", "Idle (none waits, none dropped)": by the words of the stages.
-unfoldable pub causeBy : List ℕ → ℕ → Cause
-causeBy stages count = cond (anyDropped? (stagesOf stages count)) Size Idle
 
 -- The answer that an end and the words stand for.
 abbrev pub answerBy : Task → Board → Ended → Answer

@@ -1,42 +1,18 @@
 // The sweep's code on the working graph: it knows no table header and no file.
-pub mod cause;
-pub mod draw;
-pub mod drop;
-pub mod end;
-pub mod inputs;
-pub mod look;
-pub mod meet;
-pub mod merge;
-pub mod multiply;
-pub mod operands;
-pub mod scan;
-pub mod settle;
-pub mod start;
-pub mod task;
-pub mod turn;
-pub mod twin;
-pub mod visit;
-
-use crate::cause::cause;
-use crate::end::End;
-use crate::start::start;
-use crate::task::Task;
-use crate::turn::go;
-use crate::visit::Going;
+use sweep_parts::cause::cause;
+use sweep_parts::end::End;
+use sweep_parts::end::Ended;
+use sweep_parts::task::Task;
+use sweep_start::start::start;
+use sweep_turn::turn::go;
+use sweep_turn::visit::Going;
 ghost use Prim.Native.Nat.{_*_, _≤_};
-ghost use Rattle.sweep.specs.Inputs.{sheets};
-ghost use Rattle.sweep.specs.Meet.{board};
-ghost use Rattle.sweep.specs.Start.{SweepAsked};
+ghost use Rattle.sweep_parts.specs.Meet.{board};
+ghost use Rattle.sweep_parts.specs.Sheets.{sheets};
+ghost use Rattle.sweep_start.specs.Start.{SweepAsked};
+ghost use Rattle.sweep_turn.specs.Turn.{RestIn};
 ghost use Rattle.sweep.specs.Sweep.{Rests, Sweeps};
-ghost use Rattle.sweep.specs.Turn.{RestIn};
 ghost use lib.ListN.{length};
-
-// How a sweep ended, the rows used and the steps taken.
-pub struct Ended {
-    pub end: End,
-    pub used: usize,
-    pub steps: usize,
-}
 
 // The turns, and where they come to rest the cause.
 fn finish(

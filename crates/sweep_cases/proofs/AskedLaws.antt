@@ -2,17 +2,17 @@
 use Prim.Native.Nat.{_*_, _+_, _-_, _<_, _≤_, ℕ}
 use Rattle.aig.specs.Lookup.{firstWord, secondWord}
 use Rattle.bdd.specs.Rows.{LIMIT}
-use Rattle.sweep.specs.Ending.{Closed}
-use Rattle.sweep.specs.Inputs.{sheets}
-use Rattle.sweep.specs.Meet.{Board, board}
-use Rattle.sweep.specs.Start.{Poses, SweepAsked}
 use Rattle.sweep.specs.Sweep.{Sweeps}
-use Rattle.sweep.specs.Words.{posed}
-use Rattle.sweep.specs.declared.Ended.{Ended}
-use Rattle.sweep.specs.declared.task.Task.{Task}
 use Rattle.sweep_cases.specs.Asked.{Asked, VERTICES}
 use Rattle.sweep_model.specs.Fit.{Downward, Fit}
 use Rattle.sweep_model.specs.State.{Problem, functionOf, literalFunction}
+use Rattle.sweep_parts.specs.Ending.{Closed}
+use Rattle.sweep_parts.specs.Meet.{Board, board}
+use Rattle.sweep_parts.specs.Sheets.{sheets}
+use Rattle.sweep_parts.specs.Words.{posed}
+use Rattle.sweep_parts.specs.declared.end.Ended.{Ended}
+use Rattle.sweep_parts.specs.declared.task.Task.{Task}
+use Rattle.sweep_start.specs.Start.{Poses, SweepAsked}
 use Rattle.table.proofs.FunctionLaws.{function-false, function-first, function-row, functions-perfect, length-functions}
 use Rattle.table.proofs.LayoutLaws.{length-pairs, pairs-at}
 use Rattle.table.specs.Accepted as table

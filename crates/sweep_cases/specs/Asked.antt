@@ -3,8 +3,8 @@ use Prim.Native.Nat.{_*_, _+_, _<_, _≤_, ℕ}
 use Rattle.aig.specs.Lookup.{Holds, firstWord, secondWord}
 use Rattle.bdd.specs.Rows.{LIMIT}
 use Rattle.card_file.specs.CardFile.{numberOf, partOf}
-use Rattle.sweep.specs.declared.task.Task.{Task}
 use Rattle.sweep_model.specs.Fit.{Downward}
+use Rattle.sweep_parts.specs.declared.task.Task.{Task}
 use mathlib.Core.List.{List}
 use mathlib.Core.Path.{_≡_}
 

@@ -3,7 +3,7 @@ use crate::graph::VERTICES;
 use crate::graph::is_graph;
 use card_file::field;
 use card_file::number;
-use sweep::task::Task;
+use sweep_parts::task::Task;
 ghost use Prim.Native.Nat.{_*_, _≤_};
 ghost use Rattle.sweep_cases.specs.Asked.{Asked, Between, Limited, Named, VERTICES, numberIn, taskIn};
 ghost use lib.ListN.{length};

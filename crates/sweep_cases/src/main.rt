@@ -10,7 +10,7 @@ use card_file::field;
 use card_file::number;
 use graph::VERTICES;
 use libc::STDOUT_FILENO;
-use sweep::task::Task;
+use sweep_parts::task::Task;
 ghost use Rattle.sweep_cases.specs.Asked.{Asked, VERTICES};
 ghost use lib.ListN.{length};
 ghost use mathlib.Core.Path.{_≡_};

@@ -2,17 +2,17 @@
 use crate::asked::MAX_INPUTS;
 use bdd::difference::first_difference;
 use libc::STDOUT_FILENO;
-use sweep::Ended;
-use sweep::end::End;
-use sweep::task::Task;
 use sweep_graph::words::first_word;
 use sweep_graph::words::second_word;
 use sweep_model::Counts;
 use sweep_model::Reply;
+use sweep_parts::end::End;
+use sweep_parts::end::Ended;
+use sweep_parts::task::Task;
 ghost use Prim.Native.Nat.{_*_, _<_, _^_, _≤_};
 ghost use Rattle.bdd.specs.Store.{Store};
-ghost use Rattle.sweep.specs.Ending.{Refers};
 ghost use Rattle.sweep_cases.specs.Asked.{INPUTS};
+ghost use Rattle.sweep_parts.specs.Ending.{Refers};
 ghost use lib.ListN.{length};
 ghost use mathlib.Core.Path.{_≡_};
 

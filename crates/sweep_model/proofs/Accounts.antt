@@ -1,13 +1,15 @@
 -- Marks, rows and steps of a state: the rows are the parts of the functions marked 1, the steps those of the ANDs marked 1 or 2.
 use Prim.Native.Nat.{_+_, _<_, _≤_, suc, zero, ℕ}
-use Rattle.product_model.proofs.Ran.{Done, Proper}
-use Rattle.product_model.proofs.Store.{Holds, done-holds}
+use Rattle.product_model.proofs.Ran.{Done}
+use Rattle.product_model.proofs.Store.{done-holds}
+use Rattle.product_model.specs.Books.{Holds}
 use Rattle.product_model.specs.Run.{Book}
 use Rattle.sweep_model.proofs.Marked.{Inserted, andAt, ands-first, ands-put, marked-none, marked-put, marked-stays, parts-inserted, sum-inserted}
 use Rattle.sweep_model.proofs.Tidy.{first-unmerged}
 use Rattle.sweep_model.specs.Claims.{And, andSteps, andsOf, is, isEither, marked, stepsMarked, sum}
 use Rattle.sweep_model.specs.Fit.{vertexCount}
 use Rattle.sweep_model.specs.Normalise.{wasMerged?}
+use Rattle.sweep_model.specs.Reachable.{Accounted, MarkFits}
 use Rattle.sweep_model.specs.State.{Problem, functionOf}
 use Rattle.sweep_model.specs.Sweep.{givenBack}
 use Rattle.truth.specs.Distinct.{among, apart}
@@ -21,24 +23,6 @@ use mathlib.Core.Logic.{_≢_}
 use mathlib.Core.Path.{_∙_, _≡_, ap, refl, sym}
 use native.Mathlib.Decide.{ℕ-discrete}
 use native.Mathlib.Omega.{arith}
-
--- What the mark of a vertex says: the constant has none; 2 only at a made vertex larger than the size limit; a made vertex marked 1 is not larger; one
--- that was merged at entry has none.
-pub record MarkFits (p : Problem) (entry : List ℕ) (v mark : ℕ) : Type 0 where
-  pub known : mark ≤ 3
-  pub constant : v ≡ 0 → mark ≡ 0
-  pub made : mark ≡ 2 → p .first ≤ v
-  pub large : mark ≡ 2 → p .limits .size < size (functionOf p v)
-  pub small : mark ≡ 1 → p .first ≤ v → size (functionOf p v) ≤ p .limits .size
-  pub unmerged : mark ≢ 0 → wasMerged? (p .first) entry v ≡ false
-
--- The book's rows are the parts of the functions marked 1, its steps those of the ANDs marked 1 or 2, both within the limits; no mark is 3.
-pub record Accounted (p : Problem) (entry marks : List ℕ) (book : Book) : Type 0 where
-  pub proper : Proper (p .limits .rows) (p .limits .steps) book
-  pub holds : Holds book (marked (is 1) marks (p .functions))
-  pub steps : book .steps ≡ stepsMarked p entry marks
-  pub fits : (v : ℕ) → MarkFits p entry v (getD marks v 0)
-  pub unnamed : (v : ℕ) → getD marks v 0 ≢ 3
 
 -- One element replaced: what holds of it and of the others holds of each.
 pub each-set :

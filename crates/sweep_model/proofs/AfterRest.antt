@@ -4,7 +4,6 @@ use Rattle.aig.specs.Literal.{vertexOf}
 use Rattle.aig.specs.Lookup.{firstWord, secondWord}
 use Rattle.sweep_model.proofs.Halt.{Resting, sweep-quiet}
 use Rattle.sweep_model.proofs.NeverIdle.{Lacking, Rest, is-bare, is-dropped, never-idle, operand-lacks, sweep-rests}
-use Rattle.sweep_model.proofs.Reachable.{Reachable}
 use Rattle.sweep_model.proofs.Replies.{reachable-keeps}
 use Rattle.sweep_model.proofs.ReplyLaws.{marked-unmerged, size-some, two-large, two-made}
 use Rattle.sweep_model.proofs.Rows.{resolve-first, resolve-stays, resolve-vertex}
@@ -17,6 +16,7 @@ use Rattle.sweep_model.proofs.Tidy.{equal-merged, made-merged}
 use Rattle.sweep_model.specs.Claims.{AfterIdle, AtRest, Excused, Made, Stuck, TookOne, by-first, by-merging, by-second, by-taking}
 use Rattle.sweep_model.specs.Fit.{Fit, vertexCount}
 use Rattle.sweep_model.specs.Normalise.{merged?, resolve}
+use Rattle.sweep_model.specs.Reachable.{Reachable}
 use Rattle.sweep_model.specs.State.{Problem, State, bare?, dropped?, functionOf, gone?, has?, stageOf}
 use Rattle.sweep_model.specs.Sweep.{sweep, undecided}
 use Rattle.sweep_model.specs.declared.Cause.the-variants.{Idle, Size}

@@ -3,7 +3,7 @@ use Prim.Native.Nat.{_*_, _-_, _<_, max, min, suc, zero, ℕ}
 use Rattle.aig.proofs.LiteralLaws.{vertex-literal}
 use Rattle.aig.specs.Literal.{vertexOf}
 use Rattle.aig.specs.Lookup.{firstWord}
-use Rattle.product_model.proofs.Ran.{Stored}
+use Rattle.product_model.specs.Books.{Stored}
 use Rattle.product_model.specs.Run.{Book}
 use Rattle.sweep_model.proofs.Choices.{IsTwin, LowestTwin}
 use Rattle.sweep_model.proofs.Functions.{own-function}
@@ -11,12 +11,14 @@ use Rattle.sweep_model.proofs.Merger.{lower-unmerged, merger-below, mer
 use Rattle.sweep_model.proofs.Products.{literal-alike, stored-alike}
 use Rattle.sweep_model.proofs.Rows.{onto-vertex, resolve-function, resolve-merged}
 use Rattle.sweep_model.proofs.Stages.{has-not-gone}
-use Rattle.sweep_model.proofs.Steady.{Due, Steady, alive-unmerged, alive-within}
+use Rattle.sweep_model.proofs.Steady.{alive-unmerged, alive-within}
 use Rattle.sweep_model.proofs.Takes.{Fate, left-alone, target, woken}
 use Rattle.sweep_model.proofs.Tidy.{merged-agree, merged-equal, resolve-kept}
 use Rattle.sweep_model.specs.Fit.{Fit, Sound, WellFormed, vertexCount}
 use Rattle.sweep_model.specs.Normalise.{merged?, resolve, wasMerged?}
+use Rattle.sweep_model.specs.Reachable.{AllStored, Apart}
 use Rattle.sweep_model.specs.State.{Problem, Stage, State, functionOf, gone, has?, opened, stageOf, waiting, withBook}
+use Rattle.sweep_model.specs.Steady.{Due, Steady}
 use Rattle.sweep_model.specs.Sweep.{at, meet}
 use Rattle.truth.proofs.Booleans.{not-true, or-cases}
 use Rattle.truth.proofs.Equality.{constant-equal, inverse-alike}
@@ -32,14 +34,6 @@ use mathlib.Core.Logic.{_≢_, ⊎-elim}
 use mathlib.Core.Path.{_∙_, _≡_, ap, ap₂, refl, sym}
 use native.Mathlib.Decide.{decLe, ℕ-discrete}
 use native.Mathlib.Omega.{arith}
-
--- Two vertices with diagrams whose functions are alike are one.
-abbrev pub Apart : Problem → List Stage → Type 0
-Apart p stages = (u v : ℕ) → has? (stageOf stages u) ≡ true → has? (stageOf stages v) ≡ true → alike? (functionOf p u) (functionOf p v) ≡ true → u ≡ v
-
--- The rows of every vertex with a diagram are in the store.
-abbrev pub AllStored : Problem → List Stage → List Truth → Type 0
-AllStored p stages store = (v : ℕ) → has? (stageOf stages v) ≡ true → Stored (functionOf p v) store
 
 alike-chain : (f g h : Truth) → alike? f g ≡ true → alike? g h ≡ true → alike? f h ≡ true
 alike-chain f g h a b = alike-sameness .congruent f g h a ∙ b

@@ -3,10 +3,11 @@ use Prim.Native.Nat.{_+_, _≤_, suc, zero, ℕ}
 use Rattle.sweep_model.proofs.Choices.{no-turns-no-pick, pick-waits}
 use Rattle.sweep_model.proofs.Induction.{Claim, Keeps, Reached, endings-keep, go-claim, goes-on, start-claim, stops, turn-claim}
 use Rattle.sweep_model.proofs.Stages.{has-not-gone, stage-within, waits-has}
-use Rattle.sweep_model.proofs.Steady.{Scanning, Steady, openedAt}
+use Rattle.sweep_model.proofs.Steady.{openedAt}
 use Rattle.sweep_model.proofs.Turns.{turns-set, waiting-turns}
 use Rattle.sweep_model.specs.Fit.{Fit, vertexCount}
 use Rattle.sweep_model.specs.State.{Problem, State, opened, stageOf, waits?}
+use Rattle.sweep_model.specs.Steady.{Scanning, Steady}
 use Rattle.sweep_model.specs.Sweep.{Progress, Twin, Verdict, andThen, at, go, goFor, none, on, openAt, pickFrom, start, turnsLeft, turnsOf}
 use mathlib.Core.Bool.{true}
 use mathlib.Core.List.{List}

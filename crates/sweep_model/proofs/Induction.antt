@@ -5,10 +5,11 @@ use Rattle.aig.specs.Lookup.{firstWord, secondWord}
 use Rattle.product_model.specs.Run.{Book, Outcome, addPart, done, plain, shortOfRows, shortOfSteps}
 use Rattle.sweep_model.proofs.Choices.{no-turns-no-pick, pick-waits, twin-at}
 use Rattle.sweep_model.proofs.Merger.{merger-scanning, merger-steady}
-use Rattle.sweep_model.proofs.Steady.{Due, Giving, Scanning, Steady, Unsettled, begin-giving, begin-steady, bothHave?, dropped-steady, due-alive, giving-scanning, giving-swept, inputRow, leftNow, opened-steady, openedAt, productOf, rightNow, scanning-dropped, scanning-opened, scanning-passed, scanning-swept, swept-steady}
+use Rattle.sweep_model.proofs.Steady.{begin-giving, begin-steady, dropped-steady, due-alive, giving-scanning, giving-swept, inputRow, opened-steady, openedAt, scanning-dropped, scanning-opened, scanning-passed, scanning-swept, swept-steady}
 use Rattle.sweep_model.specs.Fit.{Fit, vertexCount}
 use Rattle.sweep_model.specs.Normalise.{normalise}
 use Rattle.sweep_model.specs.State.{Problem, State, bare?, functionOf, gone?, literalFunction, open?, stageOf, withBook, withMark}
+use Rattle.sweep_model.specs.Steady.{Due, Giving, Scanning, Steady, Unsettled, bothHave?, leftNow, productOf, rightNow}
 use Rattle.sweep_model.specs.Sweep.{Progress, Twin, Verdict, andThen, answerOf, at, begin, cause, conclude, different, drop, ends, equal, giveRow, givenBack, go, goFor, inputsFrom, look, lookAt, meet, multiply, none, on, openAt, pickFrom, ready?, scanFrom, start, sweep, swept, topPart, turnsLeft, twinFrom, undecided, visit}
 use Rattle.sweep_model.specs.declared.Cause.the-variants.{Rows, Steps}
 use Rattle.truth.proofs.Booleans.{and-left, and-right}

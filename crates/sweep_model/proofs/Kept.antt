@@ -5,10 +5,11 @@ use Rattle.aig.specs.Lookup.{firstWord, secondWord}
 use Rattle.aig.specs.Pairs.{SamePair, straight}
 use Rattle.sweep_model.proofs.Induction.{Endings, endings-keep, sweep-keeps}
 use Rattle.sweep_model.proofs.Rows.{resolve-function}
-use Rattle.sweep_model.proofs.Steady.{Steady, mark-steady}
+use Rattle.sweep_model.proofs.Steady.{mark-steady}
 use Rattle.sweep_model.specs.Fit.{Fit, Sound, vertexCount}
 use Rattle.sweep_model.specs.Normalise.{merged?, resolve}
 use Rattle.sweep_model.specs.State.{Problem, State, literalFunction}
+use Rattle.sweep_model.specs.Steady.{Steady}
 use Rattle.sweep_model.specs.Sweep.{givenBack, sweep}
 use Rattle.truth.proofs.Steps.{steps-symmetric}
 use Rattle.truth.specs.Steps.{steps}

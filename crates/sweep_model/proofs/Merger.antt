@@ -9,12 +9,13 @@ use Rattle.sweep_model.proofs.Functions.{literal-function}
 use Rattle.sweep_model.proofs.Rows.{merge-sound}
 use Rattle.sweep_model.proofs.Settle.{Renewed, merge-below, merge-renewed, merge-still, merge-target, mergedRows}
 use Rattle.sweep_model.proofs.Stages.{bare-lacks, has-not-gone, stage-within}
-use Rattle.sweep_model.proofs.Steady.{Due, Scanning, Steady, Unsettled, alive-unmerged, alive-within, due-alive, due-turns, due-within, normal-rows, normal-steady, normal-taken, normal-turns}
+use Rattle.sweep_model.proofs.Steady.{alive-unmerged, alive-within, due-alive, due-turns, due-within, normal-rows, normal-steady, normal-taken, normal-turns}
 use Rattle.sweep_model.proofs.Takes.{Alive, Taken, taken-has}
-use Rattle.sweep_model.proofs.Tidy.{Moves, first-unmerged, made-merged, moves-on, still-merged}
+use Rattle.sweep_model.proofs.Tidy.{first-unmerged, made-merged, moves-on, still-merged}
 use Rattle.sweep_model.specs.Fit.{Downward, Fit, Sound, vertexCount}
 use Rattle.sweep_model.specs.Normalise.{merged?, mergedInto, normalise, wasMerged?}
 use Rattle.sweep_model.specs.State.{Problem, State, functionOf, gone, gone?, has?, literalFunction, stageOf, waiting, withBook, withRows}
+use Rattle.sweep_model.specs.Steady.{Due, Moves, Scanning, Steady, Unsettled}
 use Rattle.sweep_model.specs.Sweep.{at, meet, swept, turnsLeft, turnsOf}
 use Rattle.truth.proofs.Booleans.{clash}
 use Rattle.truth.proofs.Equality.{alike-cases, equal-same, invert-twice, same-equal}

@@ -5,15 +5,15 @@ use Rattle.aig.specs.Lookup.{firstWord, secondWord}
 use Rattle.sweep_model.proofs.Bound.{claim-on}
 use Rattle.sweep_model.proofs.Choices.{none-dropped, pick-none, pick-waits, twin-at}
 use Rattle.sweep_model.proofs.Halt.{Resting, cause-idle, sweep-quiet}
-use Rattle.sweep_model.proofs.Induction.{Keeps, Place, Quiet, go-claim, giving, scanning, start-claim}
+use Rattle.sweep_model.proofs.Induction.{Keeps, Place, Quiet, giving, go-claim, scanning, start-claim}
 use Rattle.sweep_model.proofs.Rows.{resolve-within}
 use Rattle.sweep_model.proofs.Stages.{bare-lacks, has-not-gone, rests-is, stage-cases, stage-within, waits-has}
 use Rattle.sweep_model.proofs.Starving.{Delayed, NoneStarves, by-first, by-second, due-starves, first-alive, first-lower, giving-starves, merger-starves, passed-starves, second-alive, second-lower, starving-set}
-use Rattle.sweep_model.proofs.Steady.{Steady, Unsettled, bothHave?}
 use Rattle.sweep_model.proofs.Tidy.{resolve-unmerged}
 use Rattle.sweep_model.specs.Fit.{Fit, vertexCount}
 use Rattle.sweep_model.specs.Normalise.{resolve, wasMerged?}
 use Rattle.sweep_model.specs.State.{Problem, Stage, State, bare?, dropped, dropped?, gone?, has?, opened, stageOf, waiting, waits?}
+use Rattle.sweep_model.specs.Steady.{Steady, Unsettled, bothHave?}
 use Rattle.sweep_model.specs.Sweep.{anyDropped?, drop, go, on, start, sweep, swept, turnsLeft, undecided}
 use Rattle.sweep_model.specs.declared.Cause.the-variants.{Idle}
 use Rattle.truth.proofs.Booleans.{clash}

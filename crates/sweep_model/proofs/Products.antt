@@ -2,17 +2,19 @@
 use Prim.Native.Nat.{ℕ}
 use Rattle.aig.specs.Literal.{inverted?, vertexOf}
 use Rattle.aig.specs.Lookup.{firstWord, secondWord}
-use Rattle.product_model.proofs.Ran.{Proper, Ran, Stored, ran-as, run-ran}
+use Rattle.product_model.proofs.Ran.{Ran, ran-as, run-ran}
+use Rattle.product_model.specs.Books.{Proper, Stored}
 use Rattle.sweep_model.proofs.Functions.{literal-perfect}
 use Rattle.sweep_model.proofs.Kept.{steps-kept}
 use Rattle.sweep_model.proofs.Marked.{andAt}
 use Rattle.sweep_model.proofs.Stages.{open-has}
-use Rattle.sweep_model.proofs.Steady.{Due, alive-unmerged, due-alive, due-within, productOf}
+use Rattle.sweep_model.proofs.Steady.{alive-unmerged, due-alive, due-within}
 use Rattle.sweep_model.proofs.Tidy.{made-merged}
 use Rattle.sweep_model.specs.Claims.{andSteps}
 use Rattle.sweep_model.specs.Fit.{Fit}
 use Rattle.sweep_model.specs.Normalise.{merged?}
 use Rattle.sweep_model.specs.State.{Problem, State, functionOf, has?, literalFunction, open?, stageOf}
+use Rattle.sweep_model.specs.Steady.{Due, productOf}
 use Rattle.truth.proofs.Parts.{alike-invert, alike-sameness, parts-alike}
 use Rattle.truth.specs.Distinct.{among}
 use Rattle.truth.specs.Parts.{alike?, parts}

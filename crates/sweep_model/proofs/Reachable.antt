@@ -4,21 +4,23 @@ use Prim.Native.Nat.{_-_, _<_, _≤_, ℕ}
 use Rattle.product_model.proofs.Members.{within-none}
 use Rattle.product_model.proofs.Ran.{Done, is-done, kept}
 use Rattle.product_model.specs.Run.{Book, done}
-use Rattle.sweep_model.proofs.Accounts.{Accounted, dropped-accounted, each-set, input-accounted, none-accounted, product-accounted, zeros}
-use Rattle.sweep_model.proofs.Apart.{AllStored, Apart, merger-apart, merger-stored}
+use Rattle.sweep_model.proofs.Accounts.{dropped-accounted, each-set, input-accounted, none-accounted, product-accounted, zeros}
+use Rattle.sweep_model.proofs.Apart.{merger-apart, merger-stored}
 use Rattle.sweep_model.proofs.Choices.{LowestTwin, twin-at, twin-none}
 use Rattle.sweep_model.proofs.Inputs.{first-apart, input-row-ran}
 use Rattle.sweep_model.proofs.Marked.{andAt}
 use Rattle.sweep_model.proofs.Merger.{merger-book, merger-marks, merger-steady, merger-taken}
 use Rattle.sweep_model.proofs.Products.{product-ran}
 use Rattle.sweep_model.proofs.Stages.{bare-lacks, bare-not-gone, dropped-lacks, gone-is, has-not-gone, has-wake, stage-within, waits-has}
-use Rattle.sweep_model.proofs.Steady.{Due, Giving, Steady, alive-unmerged, alive-within, begin-giving, begin-steady, dropped-steady, due-alive, due-within, inputRow, opened-steady, openedAt, productOf, swept-steady}
+use Rattle.sweep_model.proofs.Steady.{alive-unmerged, alive-within, begin-giving, begin-steady, dropped-steady, due-alive, due-within, inputRow, opened-steady, openedAt, swept-steady}
 use Rattle.sweep_model.proofs.Takes.{Fate, left-alone, woken}
 use Rattle.sweep_model.proofs.Tidy.{first-unmerged, still-merged}
 use Rattle.sweep_model.specs.Claims.{andSteps, marked}
 use Rattle.sweep_model.specs.Fit.{Fit, vertexCount}
 use Rattle.sweep_model.specs.Normalise.{normalise, wake, wasMerged?}
+use Rattle.sweep_model.specs.Reachable.{Accounted, Apart, InputsMarked, Reachable, StageFits}
 use Rattle.sweep_model.specs.State.{Problem, Stage, State, bare, bare?, dropped, dropped?, functionOf, gone, gone?, has?, opened, stageOf, waiting, waits?, withBook}
+use Rattle.sweep_model.specs.Steady.{Due, Giving, Steady, productOf}
 use Rattle.sweep_model.specs.Sweep.{at, begin, drop, meet, none, swept, twinFrom}
 use Rattle.truth.proofs.Booleans.{clash, not-true}
 use Rattle.truth.proofs.Parts.{alike-sameness, parts-constant}
@@ -34,25 +36,6 @@ use mathlib.Core.Logic.{_≢_, _⊎_, inl, inr, ⊎-elim}
 use mathlib.Core.Path.{_∙_, _≡_, ap, refl, sym}
 use native.Mathlib.Decide.{decLt, ℕ-discrete}
 use native.Mathlib.Omega.{arith}
-
--- What the stage of a vertex says of its mark: a bare vertex has none, a dropped one has 2, an input has 1 where it has a diagram and else none.
-pub record StageFits (p : Problem) (v : ℕ) (stage : Stage) (mark : ℕ) : Type 0 where
-  pub bare-unmarked : bare? stage ≡ true → mark ≡ 0
-  pub dropped-two : dropped? stage ≡ true → mark ≡ 2
-  pub input : 1 ≤ v → v < p .first → mark ≡ cond (has? stage) 1 0
-
--- Every input is marked 1.
-abbrev pub InputsMarked : Problem → List ℕ → Type 0
-InputsMarked p marks = (v : ℕ) → 1 ≤ v → v < p .first → getD marks v 0 ≡ 1
-
--- What holds of every state that the sweep reaches. A made vertex is marked only after every input.
-pub record Reachable (p : Problem) (entry : List ℕ) (s : State) : Type 0 where
-  pub steady : Steady p entry s
-  pub accounted : Accounted p entry (s .marks) (s .book)
-  pub stored : AllStored p (s .stages) (s .book .store)
-  pub apart : Apart p (s .stages)
-  pub fits : (v : ℕ) → StageFits p v (stageOf (s .stages) v) (getD (s .marks) v 0)
-  pub inputs-first : (v : ℕ) → p .first ≤ v → getD (s .marks) v 0 ≢ 0 → InputsMarked p (s .marks)
 
 -- A vertex's stage and mark both replaced.
 stages-set :

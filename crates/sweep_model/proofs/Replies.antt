@@ -1,24 +1,26 @@
 -- Rows, steps and marks after every reply.
 use Prim.Native.Nat.{_+_, _<_, _≤_, suc, ℕ}
 use Rattle.product_model.proofs.Cases.{impossible}
-use Rattle.product_model.proofs.Ran.{Proper, ShortOfRows, ShortOfSteps, Stored, is-short-of-rows, is-short-of-steps}
-use Rattle.product_model.proofs.Store.{Holds, rows-together}
+use Rattle.product_model.proofs.Ran.{ShortOfRows, ShortOfSteps, is-short-of-rows, is-short-of-steps}
+use Rattle.product_model.proofs.Store.{rows-together}
+use Rattle.product_model.specs.Books.{Holds, Proper, Stored}
 use Rattle.product_model.specs.Run.{Book, shortOfRows, shortOfSteps}
-use Rattle.sweep_model.proofs.Accounts.{Accounted, MarkFits, fits-now, holds-now}
-use Rattle.sweep_model.proofs.Apart.{AllStored, Apart}
+use Rattle.sweep_model.proofs.Accounts.{fits-now, holds-now}
 use Rattle.sweep_model.proofs.Choices.{pick-waits}
 use Rattle.sweep_model.proofs.Induction.{Keeps}
 use Rattle.sweep_model.proofs.Inputs.{input-row-ran}
 use Rattle.sweep_model.proofs.Marked.{andAt, ands-put, marked-among, marked-put, marked-same, sum-inserted, together-inserted}
 use Rattle.sweep_model.proofs.Products.{product-ran}
-use Rattle.sweep_model.proofs.Reachable.{InputsMarked, Reachable, StageFits, begin-reachable, dropped-reachable, due-entry, due-inputs, due-nonzero, due-unmarked, input-reachable, merged-reachable, opened-reachable, product-reachable}
+use Rattle.sweep_model.proofs.Reachable.{begin-reachable, dropped-reachable, due-entry, due-inputs, due-nonzero, due-unmarked, input-reachable, merged-reachable, opened-reachable, product-reachable}
 use Rattle.sweep_model.proofs.Stages.{bare-lacks}
-use Rattle.sweep_model.proofs.Steady.{Due, Giving, Scanning, Steady, due-within, inputRow, productOf}
+use Rattle.sweep_model.proofs.Steady.{due-within, inputRow}
 use Rattle.sweep_model.proofs.Tidy.{first-unmerged}
 use Rattle.sweep_model.specs.Claims.{And, Names, andSteps, andsOf, by-rows, by-steps, is, isEither, marked, rowsMarkedWithLast, stepsMarked, stepsMarkedWithLast, sum}
 use Rattle.sweep_model.specs.Fit.{Fit, vertexCount}
 use Rattle.sweep_model.specs.Normalise.{wasMerged?}
+use Rattle.sweep_model.specs.Reachable.{Accounted, AllStored, Apart, InputsMarked, MarkFits, Reachable, StageFits}
 use Rattle.sweep_model.specs.State.{Problem, Stage, State, bare?, dropped?, functionOf, has?, stageOf, withBook, withMark}
+use Rattle.sweep_model.specs.Steady.{Due, Giving, Scanning, Steady, productOf}
 use Rattle.sweep_model.specs.Sweep.{Verdict, anyDropped?, cause, different, equal, givenBack, undecided}
 use Rattle.sweep_model.specs.declared.Cause.the-variants.{Idle, Rows, Size, Steps}
 use Rattle.sweep_model.specs.declared.Cause.{Cause}

@@ -4,9 +4,9 @@ use Rattle.aig.specs.Literal.{negate}
 use Rattle.sweep_model.proofs.Functions.{function-negate, literal-perfect}
 use Rattle.sweep_model.proofs.Induction.{Endings, endings-keep, sweep-keeps}
 use Rattle.sweep_model.proofs.Rows.{resolve-function}
-use Rattle.sweep_model.proofs.Steady.{Steady, leftNow, rightNow}
 use Rattle.sweep_model.specs.Fit.{Fit}
 use Rattle.sweep_model.specs.State.{Problem, State, literalFunction}
+use Rattle.sweep_model.specs.Steady.{Steady, leftNow, rightNow}
 use Rattle.sweep_model.specs.Sweep.{Verdict, different, equal, sweep, undecided}
 use Rattle.sweep_model.specs.declared.Cause.{Cause}
 use Rattle.truth.proofs.Booleans.{clash}

@@ -14,9 +14,10 @@ use Rattle.aig.specs.declared.literal.Literal.{Literal}
 use Rattle.aig.specs.declared.lookup.Found.the-variants.{At, Nothing}
 use Rattle.aig.specs.declared.lookup.Found.{Found}
 use Rattle.sweep_model.proofs.Rows.{resolve-agree, resolve-within, row-downward, row-here, row-other}
-use Rattle.sweep_model.proofs.Tidy.{Moves, Tidy, equal-merged, first-unmerged, merged-agree, resolve-kept, resolve-unmerged, tidy-agree, tidy-less, unequal-stays, unequal-unmerged}
+use Rattle.sweep_model.proofs.Tidy.{equal-merged, first-unmerged, merged-agree, resolve-kept, resolve-unmerged, tidy-agree, tidy-less, unequal-stays, unequal-unmerged}
 use Rattle.sweep_model.specs.Fit.{Downward}
 use Rattle.sweep_model.specs.Normalise.{foldedRow, foundRow, merged?, mergedInto, normaliseFrom, normaliseRow, resolve, wasMerged?}
+use Rattle.sweep_model.specs.Steady.{Moves, Tidy}
 use Rattle.truth.proofs.Booleans.{clash}
 use borrow.Author.Tests.{eqb-true}
 use lib.Dec.{leb}

@@ -9,12 +9,13 @@ use Rattle.sweep_model.proofs.Merger.{merger-marks, merger-moves, merge
 use Rattle.sweep_model.proofs.Reachable.{giving-has}
 use Rattle.sweep_model.proofs.Rows.{resolve-vertex, resolve-within}
 use Rattle.sweep_model.proofs.Stages.{bare-lacks, has-not-gone, has-wake, stage-within, waits-has}
-use Rattle.sweep_model.proofs.Steady.{Steady, alive-unmerged, begin-giving, begin-steady, due-alive, openedAt, swept-steady}
+use Rattle.sweep_model.proofs.Steady.{alive-unmerged, begin-giving, begin-steady, due-alive, openedAt, swept-steady}
 use Rattle.sweep_model.proofs.Takes.{Fate, Taken, left-alone, taken-constant, taken-has, target, target-fate, woken}
-use Rattle.sweep_model.proofs.Tidy.{Moves, merged-equal, resolve-kept, resolve-twice}
+use Rattle.sweep_model.proofs.Tidy.{merged-equal, resolve-kept, resolve-twice}
 use Rattle.sweep_model.specs.Fit.{Fit, vertexCount}
 use Rattle.sweep_model.specs.Normalise.{normalise, resolve, wasMerged?}
 use Rattle.sweep_model.specs.State.{Problem, Stage, State, dropped, gone, gone?, has?, opened, stageOf, waiting, waits?, withBook}
+use Rattle.sweep_model.specs.Steady.{Moves, Steady}
 use Rattle.sweep_model.specs.Sweep.{at, begin, drop, givenBack, swept}
 use Rattle.truth.proofs.Booleans.{bool-cases, clash, or-cases, or-left}
 use lib.ListN.{getD, length, set}

@@ -9,12 +9,13 @@ use Rattle.sweep_model.proofs.Choices.{LowestTwin}
 use Rattle.sweep_model.proofs.Merger.{merger-moves, merger-steady, merger-taken}
 use Rattle.sweep_model.proofs.Rows.{resolve-vertex}
 use Rattle.sweep_model.proofs.Stages.{bare-not-gone, stage-within, waits-wake}
-use Rattle.sweep_model.proofs.Steady.{Due, Giving, Steady, alive-unmerged, due-alive, due-within}
+use Rattle.sweep_model.proofs.Steady.{alive-unmerged, due-alive, due-within}
 use Rattle.sweep_model.proofs.Takes.{Fate, Newly, Taken, either?, left-alone, taken-bare, target, target-fate, woken}
-use Rattle.sweep_model.proofs.Tidy.{Tidy, made-merged, merged-equal, resolve-kept}
+use Rattle.sweep_model.proofs.Tidy.{made-merged, merged-equal, resolve-kept}
 use Rattle.sweep_model.specs.Fit.{Downward, Fit, vertexCount}
 use Rattle.sweep_model.specs.Normalise.{merged?, resolve, wake, wasMerged?}
 use Rattle.sweep_model.specs.State.{Problem, Stage, State, bare?, gone, gone?, has?, open?, opened, stageOf, waiting, waits?, withBook}
+use Rattle.sweep_model.specs.Steady.{Due, Giving, Steady, Tidy}
 use Rattle.sweep_model.specs.Sweep.{at, meet, ready?}
 use Rattle.truth.proofs.Booleans.{bool-cases, clash, not-true, or-right}
 use borrow.Author.Tests.{le-leb}

@@ -1,84 +1,31 @@
 -- What holds of every state that the sweep reaches, and what the steps that merge nothing keep of it.
 use Prim.Native.Nat.{_-_, _<_, _≤_, suc, ℕ}
-use Rattle.aig.specs.Literal.{negate, vertexOf}
-use Rattle.aig.specs.Lookup.{firstWord, secondWord}
-use Rattle.product_model.specs.Run.{Book, Outcome, addPart, run}
+use Rattle.aig.specs.Literal.{vertexOf}
+use Rattle.product_model.specs.Run.{Book, Outcome, addPart}
 use Rattle.sweep_model.proofs.Normal.{normal-sound}
 use Rattle.sweep_model.proofs.Settle.{Renewed, renewed}
 use Rattle.sweep_model.proofs.Stages.{bare-is, bare-not-gone, has-not-gone, stage-within, waits-has}
-use Rattle.sweep_model.proofs.Takes.{Alive, Fate, Staged, Taken, left-alone, taken, taken-staged, woken}
-use Rattle.sweep_model.proofs.Tidy.{Moves, Tidy, first-unmerged}
+use Rattle.sweep_model.proofs.Takes.{Alive, Fate, Taken, left-alone, taken, taken-staged, woken}
+use Rattle.sweep_model.proofs.Tidy.{first-unmerged}
 use Rattle.sweep_model.proofs.Turns.{takes-turns, turns-set, waiting-turns}
 use Rattle.sweep_model.specs.Fit.{Fit, Sound, WellFormed, vertexCount}
-use Rattle.sweep_model.specs.Normalise.{normalise, normaliseFrom, resolve, wasMerged?}
-use Rattle.sweep_model.specs.State.{Problem, Stage, State, bare, bare?, dropped, functionOf, gone, gone?, has?, literalFunction, open?, opened, stageOf, waiting, waits?, withBook, withMark, withStages}
+use Rattle.sweep_model.specs.Normalise.{normalise, normaliseFrom, wasMerged?}
+use Rattle.sweep_model.specs.State.{Problem, Stage, State, bare, dropped, functionOf, gone, gone?, has?, opened, stageOf, waiting, waits?, withBook, withMark, withStages}
+use Rattle.sweep_model.specs.Steady.{Due, Giving, Moves, Scanning, Staged, Steady, Unsettled, leftNow, rightNow}
 use Rattle.sweep_model.specs.Sweep.{begin, drop, swept, topPart, turnsLeft, turnsOf}
 use Rattle.truth.proofs.Booleans.{clash}
 use lib.ListN.{getD-replicate, length, length-replicate, length-set, replicate, set}
 use lib.Seq.{getD-set-other, getD-set-same}
-use mathlib.Core.Bool.{Bool, _&&_, _||_, false, true}
+use mathlib.Core.Bool.{_&&_, _||_, false, true}
 use mathlib.Core.List.{List}
 use mathlib.Core.Logic.{_≢_}
 use mathlib.Core.Path.{_∙_, _≡_, ap, ap₂, refl, sym}
 use native.Mathlib.Decide.{ℕ-discrete}
 use native.Mathlib.Omega.{arith}
 
--- The rows are sound and tidy and have moved on from the entry rows; the stages of the merged vertices say so; there is a mark a vertex.
-pub record Steady (p : Problem) (entry : List ℕ) (s : State) : Type 0 where
-  pub sound : Sound p (s .rows)
-  pub tidy : Tidy (p .first) (vertexCount p) (s .rows)
-  pub moved : Moves (p .first) (vertexCount p) entry (s .rows)
-  pub staged : Staged (p .first) (vertexCount p) (s .rows) (s .stages)
-  pub marked : length (s .marks) ≡ vertexCount p
-
--- The left literal looked at, as it is now.
-abbrev pub leftNow : Problem → State → ℕ
-leftNow p s = resolve (s .rows) (p .left)
-
--- The right literal looked at, as it is now.
-abbrev pub rightNow : Problem → State → ℕ
-rightNow p s = resolve (s .rows) (p .right)
-
--- Whether both have diagrams.
-abbrev pub bothHave? : Problem → State → Bool
-bothHave? p s = has? (stageOf (s .stages) (vertexOf (leftNow p s))) && has? (stageOf (s .stages) (vertexOf (rightNow p s)))
-
--- They have been looked at, and nothing was decided.
-pub record Unsettled (p : Problem) (s : State) : Type 0 where
-  pub unequal : leftNow p s ≢ rightNow p s
-  pub not-inverse : leftNow p s ≢ negate (rightNow p s)
-  pub lacking : bothHave? p s ≡ false
-
--- The inputs below vertex k have their rows; no other vertex has a diagram.
-pub record Giving (p : Problem) (k : ℕ) (s : State) : Type 0 where
-  pub given : (v : ℕ) → 1 ≤ v → v < k → stageOf (s .stages) v ≡ waiting
-  pub later : (v : ℕ) → 1 ≤ v → k ≤ v → v < p .first → stageOf (s .stages) v ≡ bare
-  pub made : (v : ℕ) → p .first ≤ v → v < vertexCount p → wasMerged? (p .first) (s .rows) v ≡ false → stageOf (s .stages) v ≡ bare
-
--- At most n turns are left, and the scan has come to vertex k: the first vertices have diagrams, and nothing is decided.
-pub record Scanning (p : Problem) (n k : ℕ) (s : State) : Type 0 where
-  pub budget : turnsLeft (s .stages) ≤ n
-  pub within : k ≤ vertexCount p
-  pub first-have : (v : ℕ) → v < p .first → has? (stageOf (s .stages) v) ≡ true
-  pub unsettled : Unsettled p s
-
 -- The row of an input, with what is left of the limits.
 abbrev pub inputRow : Problem → ℕ → State → Outcome
 inputRow p v s = addPart (p .limits .rows) (topPart (functionOf p v)) (s .book)
-
--- The product of a made vertex, with what is left of the limits.
-abbrev pub productOf : Problem → ℕ → State → Outcome
-productOf p v s =
-    run (p .limits .rows) (p .limits .steps) (literalFunction p (firstWord (s .rows) v)) (literalFunction p (secondWord (s .rows) v)) (s .book)
-
--- A vertex whose product is taken.
-pub record Due (p : Problem) (entry : List ℕ) (n v : ℕ) (s : State) : Type 0 where
-  pub steady : Steady p entry s
-  pub scanning : Scanning p n v s
-  pub made : p .first ≤ v
-  pub is-bare : bare? (stageOf (s .stages) v) ≡ true
-  pub first-open : open? (stageOf (s .stages) (vertexOf (firstWord (s .rows) v))) ≡ true
-  pub second-open : open? (stageOf (s .stages) (vertexOf (secondWord (s .rows) v))) ≡ true
 
 module _ {p : Problem} {entry : List ℕ} {s : State} (steady : Steady p entry s) (v : ℕ) (alive : gone? (stageOf (s .stages) v) ≡ false) where
   -- A vertex that is not gone is one of the vertices.

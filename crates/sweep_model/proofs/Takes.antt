@@ -3,10 +3,11 @@ use Prim.Native.Nat.{_+_, _-_, _<_, _≤_, suc, zero, ℕ}
 use Rattle.aig.specs.Literal.{vertexOf}
 use Rattle.aig.specs.Lookup.{firstWord}
 use Rattle.sweep_model.proofs.Stages.{bare-wake, gone-is, gone-wake, has-wake, open-wake, stage-within, wake-wake, woken-constant, woken-length, woken-other, woken-same}
-use Rattle.sweep_model.proofs.Tidy.{Tidy, first-unmerged, made-merged, merged-made}
+use Rattle.sweep_model.proofs.Tidy.{first-unmerged, made-merged, merged-made}
 use Rattle.sweep_model.specs.Fit.{Downward}
 use Rattle.sweep_model.specs.Normalise.{merged?, takeAt, takesFrom, wake, wakeAt, wasMerged?}
 use Rattle.sweep_model.specs.State.{Stage, bare?, gone, gone?, has?, open?, opened, stageOf}
+use Rattle.sweep_model.specs.Steady.{Staged, Tidy}
 use Rattle.truth.proofs.Booleans.{clash}
 use lib.ListN.{length, length-set, set}
 use lib.Seq.{getD-set-other, getD-set-same}
@@ -188,12 +189,6 @@ module _ {first count : ℕ} {rows : List ℕ} (d : Downward first count rows) (
   taken (suc n) k stages long made =
       let one = take-one k stages long made in
       take-more k n one (taken n (suc k) (takeAt rows k stages) (one .long ∙ long) (omega arith))
-
--- Of count vertices exactly the merged ones are gone, and the constant is open and does not wait.
-pub record Staged (first count : ℕ) (rows : List ℕ) (stages : List Stage) : Type 0 where
-  pub long : length stages ≡ count
-  pub gone-merged : (v : ℕ) → v < count → gone? (stageOf stages v) ≡ wasMerged? first rows v
-  pub constant : stageOf stages 0 ≡ opened
 
 -- No vertex that was not merged is gone.
 abbrev pub Alive : ℕ → List ℕ → List Stage → Type 0

@@ -1,17 +1,16 @@
 -- Tidy rows, and rows that moved on.
 use Prim.Native.Nat.{_*_, _<_, _≤_, ℕ}
 use Rattle.aig.proofs.PairsLaws.{pair-map, pair-then}
-use Rattle.aig.specs.Fold.{Unfolded}
 use Rattle.aig.specs.Literal.{onto, vertexOf}
 use Rattle.aig.specs.Lookup.{Holds, firstWord, secondWord}
-use Rattle.aig.specs.Pairs.{SamePair, straight}
+use Rattle.aig.specs.Pairs.{straight}
 use Rattle.sweep_model.proofs.Rows.{onto-vertex, resolve-cases, resolve-first, resolve-merged, resolve-onto, resolve-stays}
 use Rattle.sweep_model.specs.Fit.{Downward}
 use Rattle.sweep_model.specs.Normalise.{merged?, resolve, wasMerged?}
+use Rattle.sweep_model.specs.Steady.{Moves, Tidy}
 use Rattle.truth.proofs.Booleans.{and-left, and-right, clash, not-true}
 use borrow.Author.Tests.{eq-eqb, le-leb, leb-true, lt-leb, ne-eqb}
 use lib.Dec.{eqb, leb}
-use lib.ListN.{length}
 use mathlib.Core.Bool.{Bool, _&&_, and-false, false, true}
 use mathlib.Core.List.{List}
 use mathlib.Core.Logic.{_≢_}
@@ -50,22 +49,6 @@ unequal-stays first rows v e = ap (_&&_ (leb first v)) e ∙ and-false (leb firs
 -- The tests see only the vertex's own row.
 pub merged-agree : (rows other : List ℕ) (v : ℕ) → Holds other v (firstWord rows v) (secondWord rows v) → merged? other v ≡ merged? rows v
 merged-agree rows other v h = ap₂ eqb (h .first) (h .second)
-
--- Below vertex k: what a vertex was merged into and the operands of the others were not merged; no row folds; no two rows of unmerged vertices are
--- the same.
-pub record Tidy (first k : ℕ) (rows : List ℕ) : Type 0 where
-  pub first-stays : (v : ℕ) → first ≤ v → v < k → wasMerged? first rows (vertexOf (firstWord rows v)) ≡ false
-  pub second-stays : (v : ℕ) → first ≤ v → v < k → wasMerged? first rows (vertexOf (secondWord rows v)) ≡ false
-  pub unfolded : (v : ℕ) → first ≤ v → v < k → merged? rows v ≡ false → Unfolded (firstWord rows v) (secondWord rows v)
-  pub once : (u v : ℕ) → first ≤ u → u < v → v < k → merged? rows u ≡ false → Holds rows v (firstWord rows u) (secondWord rows u) → ⊥
-
--- What became of the rows: merged vertices stay merged, into what their literals became; the operands of the others are what theirs became, up to order.
-pub record Moves (first count : ℕ) (rows other : List ℕ) : Type 0 where
-  pub long : length other ≡ length rows
-  pub still : (v : ℕ) → first ≤ v → v < count → merged? rows v ≡ true → merged? other v ≡ true
-  pub into : (v : ℕ) → first ≤ v → v < count → merged? rows v ≡ true → firstWord other v ≡ resolve other (firstWord rows v)
-  pub pairs : (v : ℕ) → first ≤ v → v < count → merged? other v ≡ false
-      → SamePair (firstWord other v) (secondWord other v) (resolve other (firstWord rows v)) (resolve other (secondWord rows v))
 
 module _ {first count : ℕ} {rows : List ℕ} (d : Downward first count rows) where
   -- What a literal of tidy rows became was not merged.

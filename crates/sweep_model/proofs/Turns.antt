@@ -2,10 +2,10 @@
 use Prim.Native.Nat.{_+_, _<_, _≤_, suc, zero, ℕ}
 use Rattle.sweep_model.proofs.Stages.{stage-within, woken-other}
 use Rattle.sweep_model.proofs.Takes.{Alive, either?, taken, taken-alive, target}
-use Rattle.sweep_model.proofs.Tidy.{Tidy}
 use Rattle.sweep_model.specs.Fit.{Downward}
 use Rattle.sweep_model.specs.Normalise.{merged?, takeAt, takesFrom, wake, wakeAt}
 use Rattle.sweep_model.specs.State.{Stage, again, bare, dropped, gone, gone?, opened, stageOf, waiting, waits?}
+use Rattle.sweep_model.specs.Steady.{Tidy}
 use Rattle.sweep_model.specs.Sweep.{turnsLeft, turnsOf}
 use Rattle.truth.proofs.Booleans.{clash}
 use lib.ListN.{length, set}

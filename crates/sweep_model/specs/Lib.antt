@@ -5,3 +5,5 @@ pub mod Sweep
 pub mod Reply
 pub mod Claims
 pub mod Cards
+pub mod Steady
+pub mod Reachable

@@ -1,10 +1,10 @@
 -- The start, and what follows it; no loop.
 -- One law for each way that the start comes out.
+use Rattle.sweep_parts.specs.Meet.{board}
+use Rattle.sweep_parts.specs.Sheets.{sheets}
 use Rattle.sweep.proofs.SweepModel.{start-answers, start-rests, sweep-goes-on}
 use Rattle.sweep.proofs.sweep.Statement.{statement}
 use Rattle.sweep.proofs.sweep.Tie as tie
-use Rattle.sweep.specs.Inputs.{sheets}
-use Rattle.sweep.specs.Meet.{board}
 use borrow.Author.Needs.{needs}
 use native.Mathlib.Omega.{arith}
 

@@ -1,10 +1,10 @@
 -- The graph is swept and what came is printed; no loop.
 -- One law says that the sweep can be asked, one what its end says of the words.
-use Rattle.sweep.specs.Inputs.{sheets}
-use Rattle.sweep.specs.Meet.{Board, board}
 use Rattle.sweep_cases.proofs.AskedLaws.{asked, closed}
 use Rattle.sweep_cases.proofs.show_sweep.Statement.{statement}
 use Rattle.sweep_cases.proofs.show_sweep.Tie as tie
+use Rattle.sweep_parts.specs.Meet.{Board, board}
+use Rattle.sweep_parts.specs.Sheets.{sheets}
 use borrow.Author.Needs.{needs}
 use native.Mathlib.Omega.{arith}
 

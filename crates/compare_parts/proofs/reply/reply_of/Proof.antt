@@ -2,7 +2,7 @@
 -- Each rewrites with the end.
 use Rattle.compare_parts.proofs.reply.reply_of.Statement.{statement}
 use Rattle.compare_parts.proofs.reply.reply_of.Tie as tie
-use Rattle.sweep.specs.Ending.{verdictOf}
+use Rattle.sweep_parts.specs.Ending.{verdictOf}
 use Rattle.sweep_model.specs.Reply.{replyWith}
 use borrow.Author.Needs.{needs}
 use mathlib.Core.Path.{refl}

@@ -1,0 +1,10 @@
+pub mod CauseLaws
+pub mod DrawModel
+pub mod DropModel
+pub mod HandLaws
+pub mod LookLaws
+pub mod LookModel
+pub mod MeetLaws
+pub mod NormaliseModel
+pub mod OperandLaws
+pub mod TwinModel

@@ -1,0 +1,30 @@
+// A vertex gets its diagram.
+use sweep_graph::stage::WAITING;
+use sweep_graph::stage::set_stage;
+use sweep_graph::take::own_row;
+use sweep_graph::words::set_words;
+ghost use Prim.Native.Nat.{_*_, _+_, _/_, _<_, _≤_};
+ghost use Rattle.bdd.specs.Rows.{RADIX};
+ghost use Rattle.sweep_parts.specs.Sheets.{drawnAt, sheets};
+ghost use lib.ListN.{length};
+ghost use mathlib.Core.Path.{_≡_};
+
+// Vertex v has the diagram of a reference, owns its row, waits, and is marked 1.
+pub fn draw(
+    diagrams: &mut [u32],
+    stages: &mut [u32],
+    rows: &mut [u32],
+    marks: &mut [u8],
+    v: u32,
+    reference: u32,
+    size: u32,
+)
+    requires words { ⌜ (2 * v + 1 < length (now diagrams)) × ((2 * v < length (now stages)) × (v < length (now marks))) ⌝ }
+    requires row { ⌜ (reference / 2 * 4 ≤ length (now rows)) × (v < RADIX) ⌝ }
+    ensures { λ _. ⌜ sheets (now (diagrams .exit)) (now (stages .exit)) (now (rows .exit)) (now (marks .exit)) ≡ drawnAt v reference size (sheets (now (diagrams .entry)) (now (stages .entry)) (now (rows .entry)) (now (marks .entry))) ⌝ }
+{
+    own_row(rows, reference, v);
+    set_words(diagrams, v, reference, size);
+    set_stage(stages, v, WAITING);
+    marks[v as usize] = 1;
+}

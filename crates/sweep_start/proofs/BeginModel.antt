@@ -1,0 +1,227 @@
+-- The start of a sweep after the first normalising: the looks and the inputs' rows, as in the model.
+use Prim.Native.Nat.{_-_, ℕ}
+use Rattle.aig.specs.Literal.{negate}
+use Rattle.sweep_model.proofs.Steady.{giving-scanning}
+use Rattle.sweep_model.specs.State.{Problem, State, literalFunction}
+use Rattle.sweep_model.specs.Steady.{Scanning, Unsettled, bothHave?, leftNow, rightNow}
+use Rattle.sweep_model.specs.Sweep.{Progress, Verdict, andThen, different, ends, equal, inputsFrom, look, lookAt, on, start, turnsLeft}
+use Rattle.sweep_model.specs.declared.Cause.the-variants.{Rows}
+use Rattle.sweep_parts.proofs.LookModel.{look-models, look-refers, looks}
+use Rattle.sweep_parts.specs.Ending.{Ends, verdictOf}
+use Rattle.sweep_parts.specs.Look.{Looks, SeenRefers, progressOf, seenBy}
+use Rattle.sweep_parts.specs.Meet.{Board, board}
+use Rattle.sweep_parts.specs.Represents.{Represents}
+use Rattle.sweep_parts.specs.Settle.{onBoard, stateOn}
+use Rattle.sweep_parts.specs.Sheets.{Sheets}
+use Rattle.sweep_parts.specs.Words.{posed}
+use Rattle.sweep_parts.specs.declared.end.End.the-variants.{Undecided}
+use Rattle.sweep_parts.specs.declared.end.End.{End}
+use Rattle.sweep_parts.specs.declared.look.Seen.the-variants.{Differ, Equal, Inverse, Nothing}
+use Rattle.sweep_parts.specs.declared.look.Seen.{Seen}
+use Rattle.sweep_parts.specs.declared.task.Task.{Task}
+use Rattle.sweep_start.specs.Given.{AllGiven, Frame, Framed, GivenTo, GivesRows}
+use Rattle.sweep_start.specs.Start.{GivesInputs, GivingIn, GoneOn, Poses, Prepared, Prepares, Starts, SweepAsked, inputsGiven}
+use Rattle.sweep_start.specs.declared.inputs.Inputs.the-variants.{All, Short}
+use Rattle.sweep_start.specs.declared.inputs.Inputs.{Inputs}
+use Rattle.sweep_turn.proofs.EndModel.{looked-ends}
+use Rattle.sweep_turn.specs.Visit.{goingBy}
+use Rattle.sweep_turn.specs.declared.visit.Going.the-variants.{Ended, On}
+use Rattle.sweep_turn.specs.declared.visit.Going.{Going}
+use Rattle.truth.specs.Settings.{firstDifference}
+use Rattle.truth.specs.Truth.{Truth, same?}
+use borrow.Author.Tests.{eqb-false}
+use lib.Dec.{eqb}
+use lib.ListN.{replicate}
+use mathlib.Core.Bool.{Bool, cond, false, true}
+use mathlib.Core.List.{List}
+use mathlib.Core.Path.{_∙_, _≡_, ap, refl, subst, sym}
+use native.Mathlib.Omega.{arith}
+
+-- Where the model's look goes on, nothing is decided.
+look-unsettled : (p : Problem) (s z : State) → look p s ≡ on z → Unsettled p s
+unfolding look lookAt
+look-unsettled p s z e =
+    go (eqb (leftNow p s) (rightNow p s)) refl (eqb (leftNow p s) (negate (rightNow p s))) refl (bothHave? p s) refl
+    (same? (literalFunction p (leftNow p s)) (literalFunction p (rightNow p s))) e
+  where
+    over : {x : Verdict} → ends x s ≡ on z → Unsettled p s
+    over h = absurd (let i : _≡_ {A = ℕ} 0 1 = cc in omega arith)
+
+    go : (a : Bool) → eqb (leftNow p s) (rightNow p s) ≡ a → (b : Bool) → eqb (leftNow p s) (negate (rightNow p s)) ≡ b → (c : Bool)
+        → bothHave? p s ≡ c → (d : Bool)
+        → cond a (ends equal s)
+        (cond b (ends (different (replicate (p .inputs) false)) s)
+        (cond c
+        (cond d (ends equal s) (ends (different (firstDifference (literalFunction p (leftNow p s)) (literalFunction p (rightNow p s)))) s))
+        (on s)))
+        ≡ on z
+        → Unsettled p s
+    go true ea b eb c ec d h = over h
+    go false ea true eb c ec d h = over h
+    go false ea false eb true ec true h = over h
+    go false ea false eb true ec false h = over h
+    go false ea false eb false ec d h =
+        record {
+          unequal = eqb-false (leftNow p s) (rightNow p s) ea;
+          not-inverse = eqb-false (leftNow p s) (negate (rightNow p s)) eb;
+          lacking = ec;
+        }
+
+-- The frame of a board.
+abbrev frameOf : List Truth → List ℕ → Board → Frame
+frameOf functions entry b = record { functions = functions; entry = entry; pairs = b .pairs; steps = 0 }
+
+-- No input has its row at first.
+prepared-given :
+    {t : Task} {functions : List Truth} {entry : List ℕ} {b : Board} → Prepared t functions entry b
+    → GivenTo t (frameOf functions entry b) (b .sheets) 0 1
+prepared-given h = record { represents = h .represents; giving = h .giving }
+
+-- What giving the rows needs is there.
+pub giving-framed : {t : Task} {b : Board} → GivingIn t b → Framed t (b .sheets) 0
+giving-framed {b = b} h = record { frame = frameOf (h .functions) (h .entry) b; given = prepared-given (h .prepared) }
+
+module _
+    (t : Task) (b : Board) (after : Sheets) (used : ℕ) {o : Inputs} (all : o ≡ All used) (gave : GivesRows t (b .sheets) 0 after o) where
+  -- All rows are given.
+  all-given :
+      {functions : List Truth} {entry : List ℕ} → Prepared t functions entry b → AllGiven t (frameOf functions entry b) (b .sheets) 0 after used
+  all-given {functions} {entry} h = subst (GivesRows t (b .sheets) 0 after) all gave (frameOf functions entry b) (prepared-given h)
+
+  -- What looking needs is there, after all rows are given.
+  pub given-looks : GivingIn t b → Looks t (b .pairs) (after .diagrams) (after .stages)
+  given-looks h = looks (all-given (h .prepared) .given .represents)
+
+  module _ {seen : Seen} (es : seen ≡ seenBy t (b .pairs) (after .diagrams) (after .stages)) where
+    -- The model goes on or ends by what was seen.
+    seen-reached :
+        {functions : List Truth} {entry : List ℕ} → Prepared t functions entry b
+        → inputsGiven t functions b ≡ progressOf (after .rows) (t .inputs) (stateOn t (board (b .pairs) after) used 0) seen
+    unfolding andThen
+    seen-reached {functions} h =
+        ap (λ (o : Progress). andThen o (look (posed t functions))) (all-given h .reached) ∙ sym (look-models (all-given h .given .represents))
+        ∙ ap (progressOf (after .rows) (t .inputs) (stateOn t (board (b .pairs) after) used 0)) (sym es)
+
+    -- What was seen refers to rows in use.
+    seen-refer : {functions : List Truth} {entry : List ℕ} → Prepared t functions entry b → SeenRefers (after .rows) used (t .inputs) seen
+    seen-refer h = subst (SeenRefers (after .rows) used (t .inputs)) (sym es) (look-refers (all-given h .given .represents))
+
+    -- Where nothing was seen the first turn can begin.
+    seen-nothing :
+        seen ≡ Nothing → (functions : List Truth) (entry : List ℕ) → Prepared t functions entry b
+        → GoneOn t functions entry (inputsGiven t functions b) (board (b .pairs) after) used 0
+    unfolding progressOf
+    seen-nothing e functions entry h =
+        record {
+          reached = seen-reached h ∙ ap (progressOf (after .rows) (t .inputs) s) e;
+          rests = record {
+            represents = rep;
+            scanning = subst (λ (n : ℕ). Scanning p (turnsLeft (s .stages)) n s) (rep .count)
+                (giving-scanning s (rep .reachable .steady) (all-given h .given .giving) (look-unsettled p s s goes));
+          };
+        }
+      where
+        p : Problem
+        p = posed t functions
+
+        s : State
+        s = stateOn t (board (b .pairs) after) used 0
+
+        rep : Represents t functions entry (onBoard (board (b .pairs) after) used 0)
+        rep = all-given h .given .represents
+
+        goes : look p s ≡ on s
+        goes = sym (look-models rep) ∙ ap (progressOf (after .rows) (t .inputs) s) (sym es ∙ e)
+
+  -- The sweep goes on or ends after all rows are given.
+  given-going :
+      (seen : Seen) → seen ≡ seenBy t (b .pairs) (after .diagrams) (after .stages) → GivesInputs t b (board (b .pairs) after) (goingBy seen used 0)
+  given-going Equal e = λ functions entry h. looked-ends Equal (all-given h .given .represents) (seen-reached e h) (seen-refer e h) refl
+  given-going Inverse e = λ functions entry h. looked-ends Inverse (all-given h .given .represents) (seen-reached e h) (seen-refer e h) refl
+  given-going (Differ f g) e = λ functions entry h. looked-ends (Differ f g) (all-given h .given .represents) (seen-reached e h) (seen-refer e h) refl
+  given-going Nothing e = seen-nothing e refl
+
+  -- The same for what the code returned.
+  pub given-goes :
+      (seen : Seen) → seen ≡ seenBy t (b .pairs) (after .diagrams) (after .stages) → {g : Going} → g ≡ goingBy seen used 0
+      → GivesInputs t b (board (b .pairs) after) g
+  given-goes seen e eg = subst (GivesInputs t b (board (b .pairs) after)) (sym eg) (given-going seen e)
+
+-- The sweep ends where the row limit was passed.
+pub given-short :
+    (t : Task) (b : Board) (after : Sheets) (v used : ℕ) {o : Inputs} → o ≡ Short v used → GivesRows t (b .sheets) 0 after o
+    → (functions : List Truth) (entry : List ℕ) → Prepared t functions entry b
+    → Ends t functions (inputsGiven t functions b) (board (b .pairs) after) used 0 (Undecided (Rows v))
+unfolding andThen verdictOf
+given-short t b after v used short gave functions entry h =
+    let x = subst (GivesRows t (b .sheets) 0 after) short gave (frameOf functions entry b) (prepared-given h) in
+    record { reached = ap (λ (o : Progress). andThen o (look (posed t functions))) (x .reached); closed = x .closed }
+
+-- What follows in the model where the first look sees nothing.
+abbrev afterNothing : Task → List Truth → State → Progress
+afterNothing t functions s = andThen (inputsFrom (posed t functions) 1 (t .first - 1) s) (look (posed t functions))
+
+module _ (t : Task) (b middle : Board) (prepares : Prepares t b middle) where
+  -- What looking needs is there, after the first normalising.
+  pub prepared-looks : {places : List ℕ} → SweepAsked t places b → Looks t (middle .pairs) (middle .sheets .diagrams) (middle .sheets .stages)
+  prepared-looks h = looks (prepares (h .functions) (h .poses) .prepared .represents)
+
+  -- What giving the inputs needs is there.
+  pub prepared-giving : {places : List ℕ} → SweepAsked t places b → GivingIn t middle
+  prepared-giving h = record { functions = h .functions; entry = b .pairs; prepared = prepares (h .functions) (h .poses) .prepared }
+
+  module _ {seen : Seen} (es : seen ≡ seenBy t (middle .pairs) (middle .sheets .diagrams) (middle .sheets .stages)) where
+    -- The model's start, by what was seen.
+    start-seen :
+        (functions : List Truth) → Poses t functions (b .pairs)
+        → start (posed t functions) (b .pairs)
+        ≡ andThen (progressOf (middle .sheets .rows) (t .inputs) (stateOn t middle 0 0) seen) (afterNothing t functions)
+    unfolding start
+    start-seen functions h =
+        let x = prepares functions h in
+        ap (λ (o : Progress). andThen o (afterNothing t functions))
+        (ap (look (posed t functions)) (sym (x .reached)) ∙ sym (look-models (x .prepared .represents))
+        ∙ ap (progressOf (middle .sheets .rows) (t .inputs) (stateOn t middle 0 0)) (sym es))
+
+    -- Where nothing was seen each input gets its row.
+    start-nothing :
+        seen ≡ Nothing → (functions : List Truth) → Poses t functions (b .pairs)
+        → start (posed t functions) (b .pairs) ≡ inputsGiven t functions middle
+    unfolding progressOf andThen
+    start-nothing e functions h =
+        start-seen functions h
+        ∙ ap (λ (x : Seen). andThen (progressOf (middle .sheets .rows) (t .inputs) (stateOn t middle 0 0) x) (afterNothing t functions)) e
+
+    -- The start goes on or ends as giving the inputs does.
+    pub start-gives : seen ≡ Nothing → (after : Board) (g : Going) → GivesInputs t middle after g → Starts t b after g
+    start-gives e after (On used steps) gave = λ functions h.
+        let x = gave functions (b .pairs) (prepares functions h .prepared) in
+        record { reached = start-nothing e functions h ∙ x .reached; rests = x .rests }
+    start-gives e after (Ended end used steps) gave = λ functions h.
+        let x = gave functions (b .pairs) (prepares functions h .prepared) in
+        record { reached = start-nothing e functions h ∙ x .reached; closed = x .closed }
+
+    -- The model's start ends where something was seen.
+    start-ended :
+        (functions : List Truth) (h : Poses t functions (b .pairs)) {e : End}
+        → start (posed t functions) (b .pairs) ≡ progressOf (middle .sheets .rows) (t .inputs) (stateOn t middle 0 0) seen
+        → goingBy seen 0 0 ≡ Ended e 0 0 → Ends t functions (start (posed t functions) (b .pairs)) middle 0 0 e
+    start-ended functions h reached i =
+        let rep = prepares functions h .prepared .represents in
+        looked-ends seen rep reached (subst (SeenRefers (middle .sheets .rows) 0 (t .inputs)) (sym es) (look-refers rep)) i
+
+  -- The sweep ends after the first look where something was seen.
+  start-going :
+      (seen : Seen) → seen ≡ seenBy t (middle .pairs) (middle .sheets .diagrams) (middle .sheets .stages) → (seen ≡ Nothing → ⊥)
+      → Starts t b middle (goingBy seen 0 0)
+  unfolding progressOf andThen
+  start-going Equal es d = λ functions h. start-ended es functions h (start-seen es functions h) refl
+  start-going Inverse es d = λ functions h. start-ended es functions h (start-seen es functions h) refl
+  start-going (Differ f g) es d = λ functions h. start-ended es functions h (start-seen es functions h) refl
+  start-going Nothing es d = absurd (d refl)
+
+  -- The same for what the code returned.
+  pub start-ends :
+      (seen : Seen) → seen ≡ seenBy t (middle .pairs) (middle .sheets .diagrams) (middle .sheets .stages) → (seen ≡ Nothing → ⊥)
+      → {g : Going} → g ≡ goingBy seen 0 0 → Starts t b middle g
+  start-ends seen es d eg = subst (Starts t b middle) (sym eg) (start-going seen es d)

@@ -1,0 +1,4 @@
+pub mod BeginModel
+pub mod InputLaws
+pub mod InputModel
+pub mod StartModel

@@ -1,0 +1,176 @@
+-- The start of a sweep: the words that it begins with, normalised, stand for the model's state before the inputs get their rows.
+use Prim.Native.Nat.{_*_, _+_, _-_, _<_, ℕ}
+use Rattle.aig.specs.Lookup.{cleared, firstWord, secondWord}
+use Rattle.bdd.proofs.ChainLaws.{agree-self}
+use Rattle.bdd.proofs.DiagramLaws.{constant-reference, denote-constant}
+use Rattle.bdd.specs.Diagram.{storeOf}
+use Rattle.bdd.specs.Unique.{Cleared}
+use Rattle.product.specs.Product.{bookOf}
+use Rattle.sweep_graph.proofs.BeginLaws.{begin-marks, begin-room, begin-stages, cleared-length, cleared-word}
+use Rattle.sweep_graph.proofs.GraphLaws.{graph-kept}
+use Rattle.sweep_graph.specs.Begin.{begun}
+use Rattle.sweep_graph.specs.Graph.{Graph}
+use Rattle.sweep_graph.specs.Stages.{stageWord, stagesOf, wordStage}
+use Rattle.sweep_graph.specs.Takes.{Held, Room, hasWord, held}
+use Rattle.sweep_model.proofs.Reachable.{begin-reachable}
+use Rattle.sweep_model.proofs.Steady.{begin-giving}
+use Rattle.sweep_model.specs.Normalise.{normalise, normaliseFrom}
+use Rattle.sweep_model.specs.State.{has?, opened}
+use Rattle.sweep_model.specs.Sweep.{begin}
+use Rattle.sweep_parts.proofs.HandLaws.{Handed}
+use Rattle.sweep_parts.proofs.NormaliseModel.{Normalises, normalised-represents, normalised-state, sound-graph}
+use Rattle.sweep_parts.specs.Meet.{Board, board, handedIn}
+use Rattle.sweep_parts.specs.Represents.{Drawing}
+use Rattle.sweep_parts.specs.Settle.{stateOn}
+use Rattle.sweep_parts.specs.Sheets.{sheets}
+use Rattle.sweep_parts.specs.Words.{posed}
+use Rattle.sweep_parts.specs.declared.task.Task.{Task}
+use Rattle.sweep_start.specs.Start.{Poses, PreparedFrom, Prepares, SweepAsked}
+use Rattle.truth.proofs.Booleans.{clash}
+use Rattle.truth.proofs.Parts.{size-constant}
+use Rattle.truth.specs.Parts.{size}
+use Rattle.truth.specs.Truth.{Truth}
+use lib.ListN.{take}
+use lib.Seq.{getD-set-other}
+use mathlib.Core.Bool.{false, true}
+use mathlib.Core.List.{List}
+use mathlib.Core.Path.{_∙_, _≡_, ap, refl, subst, sym}
+use native.Mathlib.Decide.{ℕ-discrete}
+use native.Mathlib.Omega.{arith}
+
+-- Only the constant has a diagram.
+begun-has : (stages : List ℕ) (count v : ℕ) → v < count → hasWord (begun stages count) v ≡ true → v ≡ 0
+unfolding has? wordStage
+begun-has stages count v h e =
+    elim (ℕ-discrete v 0) [
+      | yes i ↦ i
+      | no n ↦ clash e
+          (ap (λ (w : ℕ). has? (wordStage w))
+          (getD-set-other (cleared stages (2 * count)) (2 * 0) (2 * v) (stageWord opened) 0 (λ i. omega arith)
+          ∙ cleared-word stages (2 * count) (2 * v) (omega arith)))
+    ]
+
+-- The board of pairs, of what handing over left, and of marks.
+abbrev pub boardWith : List ℕ → Held → List ℕ → Board
+boardWith pairs h marks = board pairs (sheets (h .diagrams) (h .stages) (h .rows) marks)
+
+module _ {t : Task} {places : List ℕ} {b : Board} (q : SweepAsked t places b) where
+  -- The working graph.
+  pub start-graph : Graph (t .first) (t .count) (b .pairs)
+  start-graph = sound-graph (q .poses .fit .well-formed) (q .poses .count) (q .few) (q .poses .fit .sound)
+
+  -- The words that it begins with, with these rows.
+  abbrev begunHeld : List ℕ → Held
+  begunHeld rows = held (begun (b .sheets .stages) (t .count)) (cleared (b .sheets .diagrams) (2 * t .count)) rows
+
+  -- There is room in them.
+  start-room : (rows : List ℕ) → Room (t .count) (begunHeld rows)
+  start-room rows = begin-room (t .count) (b .sheets .stages) (b .sheets .diagrams) rows (q .stages-long) (q .diagrams-long) (q .few)
+
+  module _ {functions : List Truth} (g : Poses t functions (b .pairs)) {rows : List ℕ} (e : Cleared (b .sheets .rows) rows (t .rows)) where
+    -- The constant has its diagram, and there are no owners.
+    begun-handed : Handed t functions rows 0 (begunHeld rows)
+    begun-handed =
+        record {
+          room = start-room rows;
+          drawn = λ v h has. drawing v h (begun-has (b .sheets .stages) (t .count) v h has);
+          owners = record {
+            rightly = λ i from to own. absurd (omega arith);
+            named = λ v h has row. absurd (omega (arith, row, word v h));
+          };
+          store = e .store;
+          agree = agree-self rows;
+          long = refl;
+        }
+      where
+        word : (v : ℕ) → v < t .count → firstWord (cleared (b .sheets .diagrams) (2 * t .count)) v ≡ 0
+        word v h = cleared-word (b .sheets .diagrams) (2 * t .count) (2 * v) (omega arith)
+
+        other : (v : ℕ) → v < t .count → secondWord (cleared (b .sheets .diagrams) (2 * t .count)) v ≡ 0
+        other v h = cleared-word (b .sheets .diagrams) (2 * t .count) (2 * v + 1) (omega arith)
+
+        constant : Drawing t functions rows 0 0 0 0
+        constant =
+            record {
+              within = constant-reference rows 0 (t .inputs) 0 refl;
+              means = denote-constant rows (t .inputs) 0 refl ∙ sym (g .fit .well-formed .constant);
+              sized = sym (ap size (g .fit .well-formed .constant) ∙ size-constant (t .inputs) false);
+            }
+
+        drawing : (v : ℕ) → v < t .count → v ≡ 0
+            → Drawing t functions rows 0 v (firstWord (cleared (b .sheets .diagrams) (2 * t .count)) v) (secondWord (cleared (b .sheets .diagrams) (2 * t .count)) v)
+        drawing v h i = rw (word v h, other v h, i) constant
+
+    -- Stages, marks and rows are those of the model's beginning.
+    begun-stages : begin (posed t functions) (b .pairs) .stages ≡ stagesOf (begun (b .sheets .stages) (t .count)) (t .count)
+    begun-stages =
+        sym
+        (subst (λ (n : ℕ). stagesOf (begun (b .sheets .stages) n) n ≡ begin (posed t functions) (b .pairs) .stages) (g .count)
+        (begin-stages (posed t functions) (b .pairs) (b .sheets .stages)
+        (omega (arith, g .fit .well-formed .some-first, g .fit .well-formed .first-within)) (omega (arith, g .count, q .stages-long))))
+
+    begun-marks : take (t .count) (cleared (b .sheets .marks) (t .count)) ≡ begin (posed t functions) (b .pairs) .marks
+    begun-marks =
+        subst (λ (n : ℕ). take n (cleared (b .sheets .marks) n) ≡ begin (posed t functions) (b .pairs) .marks) (g .count)
+        (begin-marks (posed t functions) (b .pairs) (b .sheets .marks))
+
+    begun-book : bookOf rows 0 0 ≡ begin (posed t functions) (b .pairs) .book
+    unfolding begin storeOf
+    begun-book = refl
+
+    -- What is normalised.
+    begun-normalises : Normalises t functions (b .pairs) (b .pairs) rows 0 (begunHeld rows) (begin (posed t functions) (b .pairs))
+    begun-normalises =
+        record {
+          fit = g .fit;
+          count = g .count;
+          canonical = e .store .canonical;
+          handed = begun-handed;
+          graph = start-graph;
+          same-rows = same;
+          same-stages = begun-stages;
+          reached = begin-reachable (g .fit);
+        }
+      where
+        same : b .pairs ≡ begin (posed t functions) (b .pairs) .rows
+        same = unfold begin in refl
+
+    -- The board that is left.
+    abbrev last : Board
+    last =
+        let pairs = normaliseFrom (b .pairs) (t .first) (t .count - t .first) in
+        boardWith pairs (handedIn t pairs (begunHeld rows)) (cleared (b .sheets .marks) (t .count))
+
+    -- Once normalised it is prepared.
+    begun-prepared : PreparedFrom t functions b last
+    begun-prepared =
+        record {
+          reached = reached;
+          prepared = record {
+            represents =
+                normalised-represents begun-normalises (cleared (b .sheets .marks) (t .count)) 0 begun-marks begun-book (q .narrow) (q .short) (q .modest)
+                (rw (cleared-length (b .sheets .marks) (t .count) (q .marks-long)) (q .marks-long));
+            giving = rw reached (begin-giving (g .fit));
+          };
+        }
+      where
+        reached : stateOn t last 0 0 ≡ normalise (t .first) (begin (posed t functions) (b .pairs))
+        reached = normalised-state begun-normalises (cleared (b .sheets .marks) (t .count)) 0 begun-marks begun-book
+
+  -- The graph, once normalised.
+  pub start-kept : {pairs : List ℕ} → pairs ≡ normaliseFrom (b .pairs) (t .first) (t .count - t .first) → Graph (t .first) (t .count) pairs
+  start-kept ep = rw ep (graph-kept start-graph)
+
+  module _
+      {stages diagrams rows : List ℕ} (es : stages ≡ begun (b .sheets .stages) (t .count)) (ed : diagrams ≡ cleared (b .sheets .diagrams) (2 * t .count))
+    where
+      -- There is room for handing over.
+      pub start-held : Room (t .count) (held stages diagrams rows)
+      start-held = rw (es, ed) (start-room rows)
+
+      -- What the four calls leave.
+      pub start-prepares :
+          {pairs marks : List ℕ} {h : Held} → Cleared (b .sheets .rows) rows (t .rows) → marks ≡ cleared (b .sheets .marks) (t .count)
+          → pairs ≡ normaliseFrom (b .pairs) (t .first) (t .count - t .first) → h ≡ handedIn t pairs (held stages diagrams rows)
+          → Prepares t b (boardWith pairs h marks)
+      start-prepares er em ep eh functions g = rw (eh, em, ep, es, ed) (begun-prepared g er)

@@ -1,0 +1,72 @@
+// Each input gets its row.
+use bdd::unique::Made;
+use bdd::unique::make;
+use sweep_parts::draw::draw;
+use sweep_parts::task::Task;
+ghost use Rattle.sweep_parts.specs.Sheets.{sheets};
+ghost use Rattle.sweep_start.specs.Given.{Framed, GivesRows};
+ghost use Rattle.sweep_start.specs.Inputs.{Gives, RowAsked};
+
+// The rows then used, or no row is left.
+pub enum Given {
+    Row(usize),
+    Full,
+}
+
+// Input v gets its row, waits and is marked 1; or it is marked 3.
+fn give_row(
+    diagrams: &mut [u32],
+    stages: &mut [u32],
+    rows: &mut [u32],
+    marks: &mut [u8],
+    task: Task,
+    v: u32,
+    used: usize,
+) -> Given
+    requires { ⌜ RowAsked task v used (sheets (now diagrams) (now stages) (now rows) (now marks)) ⌝ }
+    ensures { λ r. ⌜ Gives task v used (sheets (now (diagrams .entry)) (now (stages .entry)) (now (rows .entry)) (now (marks .entry))) (sheets (now (diagrams .exit)) (now (stages .exit)) (now (rows .exit)) (now (marks .exit))) r ⌝ }
+{
+    let made = make(rows, used, task.rows, task.inputs + 1 - v as usize, 0, 1);
+    match made {
+        Made::At { reference, used } => {
+            draw(diagrams, stages, rows, marks, v, reference as u32, 1);
+            Given::Row(used)
+        }
+        Made::Full => {
+            marks[v as usize] = 3;
+            Given::Full
+        }
+    }
+}
+
+// The rows then used; or the input at which the row limit was passed, and the rows used.
+pub enum Inputs {
+    All(usize),
+    Short(u32, usize),
+}
+
+// Each input gets its row, upwards.
+pub fn give_rows(
+    diagrams: &mut [u32],
+    stages: &mut [u32],
+    rows: &mut [u32],
+    marks: &mut [u8],
+    task: Task,
+    used: usize,
+) -> Inputs
+    requires { ⌜ Framed task (sheets (now diagrams) (now stages) (now rows) (now marks)) used ⌝ }
+    ensures { λ r. ⌜ GivesRows task (sheets (now (diagrams .entry)) (now (stages .entry)) (now (rows .entry)) (now (marks .entry))) used (sheets (now (diagrams .exit)) (now (stages .exit)) (now (rows .exit)) (now (marks .exit))) r ⌝ }
+{
+    let first = task.first;
+    let mut more = used;
+    let mut v = 1;
+    while v < first {
+        let given = give_row(diagrams, stages, rows, marks, task, v, more);
+        match given {
+            Given::Row(u) => more = u,
+            Given::Full => return Inputs::Short(v, more),
+        }
+        v += 1;
+    }
+    Inputs::All(more)
+}

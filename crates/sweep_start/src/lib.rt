@@ -1,0 +1,3 @@
+// The start of a sweep: normalising, the first look and the rows of the inputs.
+pub mod inputs;
+pub mod start;

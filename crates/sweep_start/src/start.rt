@@ -1,0 +1,83 @@
+// The start of a sweep: up to the first turn.
+use crate::inputs::Inputs;
+use crate::inputs::give_rows;
+use bdd::unique::clear;
+use sweep_graph::begin::begin;
+use sweep_graph::normalise::normalise;
+use sweep_graph::take::takes;
+use sweep_model::Cause;
+use sweep_parts::end::End;
+use sweep_parts::look::Seen;
+use sweep_parts::look::look;
+use sweep_parts::task::Task;
+use sweep_turn::visit::Going;
+use sweep_turn::visit::after_look;
+ghost use Rattle.sweep_parts.specs.Meet.{board};
+ghost use Rattle.sweep_parts.specs.Sheets.{sheets};
+ghost use Rattle.sweep_start.specs.Start.{GivesInputs, GivingIn, Prepares, Starts, SweepAsked};
+
+// No row is used, no vertex but the constant has a diagram, all marks are 0; and the rows of the graph are normalised.
+fn prepare(
+    pairs: &mut [u32],
+    places: &mut [u32],
+    diagrams: &mut [u32],
+    stages: &mut [u32],
+    rows: &mut [u32],
+    marks: &mut [u8],
+    task: Task,
+)
+    requires { ⌜ SweepAsked task (now places) (board (now pairs) (sheets (now diagrams) (now stages) (now rows) (now marks))) ⌝ }
+    ensures { λ _. ⌜ Prepares task (board (now (pairs .entry)) (sheets (now (diagrams .entry)) (now (stages .entry)) (now (rows .entry)) (now (marks .entry)))) (board (now (pairs .exit)) (sheets (now (diagrams .exit)) (now (stages .exit)) (now (rows .exit)) (now (marks .exit)))) ⌝ }
+{
+    clear(rows, task.rows);
+    begin(stages, diagrams, marks, task.count);
+    normalise(pairs, places, task.first, task.count);
+    takes(&pairs[..], stages, diagrams, rows, task.first, task.count);
+}
+
+// Each input gets its row, and the two literals are looked at again.
+fn give_inputs(
+    pairs: &[u32],
+    diagrams: &mut [u32],
+    stages: &mut [u32],
+    rows: &mut [u32],
+    marks: &mut [u8],
+    task: Task,
+) -> Going
+    requires { ⌜ GivingIn task (board (now pairs) (sheets (now diagrams) (now stages) (now rows) (now marks))) ⌝ }
+    ensures { λ r. ⌜ GivesInputs task (board (now (pairs .entry)) (sheets (now (diagrams .entry)) (now (stages .entry)) (now (rows .entry)) (now (marks .entry)))) (board (now (pairs .entry)) (sheets (now (diagrams .exit)) (now (stages .exit)) (now (rows .exit)) (now (marks .exit)))) r ⌝ }
+{
+    let inputs = give_rows(diagrams, stages, rows, marks, task, 0);
+    match inputs {
+        Inputs::All(used) => {
+            let seen = look(pairs, &diagrams[..], &stages[..], task);
+            after_look(seen, used, 0)
+        }
+        Inputs::Short(v, used) => Going::Ended {
+            end: End::Undecided(Cause::Rows(v)),
+            used,
+            steps: 0,
+        },
+    }
+}
+
+// The graph is normalised and looked at; if nothing is decided, each input gets its row.
+pub fn start(
+    pairs: &mut [u32],
+    places: &mut [u32],
+    diagrams: &mut [u32],
+    stages: &mut [u32],
+    rows: &mut [u32],
+    marks: &mut [u8],
+    task: Task,
+) -> Going
+    requires { ⌜ SweepAsked task (now places) (board (now pairs) (sheets (now diagrams) (now stages) (now rows) (now marks))) ⌝ }
+    ensures { λ r. ⌜ Starts task (board (now (pairs .entry)) (sheets (now (diagrams .entry)) (now (stages .entry)) (now (rows .entry)) (now (marks .entry)))) (board (now (pairs .exit)) (sheets (now (diagrams .exit)) (now (stages .exit)) (now (rows .exit)) (now (marks .exit)))) r ⌝ }
+{
+    prepare(pairs, places, diagrams, stages, rows, marks, task);
+    let seen = look(&pairs[..], &diagrams[..], &stages[..], task);
+    match seen {
+        Seen::Nothing => give_inputs(&pairs[..], diagrams, stages, rows, marks, task),
+        _ => after_look(seen, 0, 0),
+    }
+}

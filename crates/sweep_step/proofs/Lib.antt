@@ -1,0 +1,3 @@
+pub mod MeetModel
+pub mod MultiplyModel
+pub mod SettleModel

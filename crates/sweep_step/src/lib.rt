@@ -1,0 +1,4 @@
+// A step of a sweep: one vertex has its product taken.
+pub mod meet;
+pub mod multiply;
+pub mod settle;

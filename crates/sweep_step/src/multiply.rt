@@ -1,0 +1,119 @@
+// A vertex has its product taken.
+use crate::settle::settle;
+use product::Product;
+use sweep_parts::drop::break_off;
+use sweep_parts::look::Seen;
+use sweep_parts::look::look;
+use sweep_parts::operands::take_product;
+use sweep_parts::task::Task;
+ghost use Prim.Native.Nat.{_*_, _≤_};
+ghost use Rattle.sweep_parts.specs.Meet.{board};
+ghost use Rattle.sweep_parts.specs.Settle.{EndedIn};
+ghost use Rattle.sweep_parts.specs.Sheets.{sheets};
+ghost use Rattle.sweep_step.specs.Multiply.{Concludes, DueIn, Takes};
+ghost use lib.ListN.{length};
+
+// What was seen after a product that is done, or the limit that was passed; with the rows then used and the steps taken.
+pub enum Step {
+    Looked {
+        seen: Seen,
+        used: usize,
+        steps: usize,
+    },
+    Rows {
+        used: usize,
+        steps: usize,
+    },
+    Steps {
+        used: usize,
+        steps: usize,
+    },
+}
+
+// The product of vertex v is done, with its reference: it is dropped or met, and the two literals are looked at.
+fn conclude(
+    pairs: &mut [u32],
+    places: &mut [u32],
+    diagrams: &mut [u32],
+    stages: &mut [u32],
+    rows: &mut [u32],
+    marks: &mut [u8],
+    task: Task,
+    v: u32,
+    reference: usize,
+    used: usize,
+    kept: usize,
+    steps: usize,
+) -> Step
+    requires ended { ⌜ EndedIn task v reference used kept (board (now pairs) (sheets (now diagrams) (now stages) (now rows) (now marks))) ⌝ }
+    requires long { ⌜ 2 * task .count ≤ length (now places) ⌝ }
+    ensures { λ r. ⌜ Concludes task v reference used kept steps (board (now (pairs .entry)) (sheets (now (diagrams .entry)) (now (stages .entry)) (now (rows .entry)) (now (marks .entry)))) (board (now (pairs .exit)) (sheets (now (diagrams .exit)) (now (stages .exit)) (now (rows .exit)) (now (marks .exit)))) r ⌝ }
+{
+    let left = settle(
+        pairs,
+        places,
+        diagrams,
+        stages,
+        rows,
+        marks,
+        task,
+        v,
+        reference,
+        used,
+        kept,
+    );
+    let seen = look(&pairs[..], &diagrams[..], &stages[..], task);
+    Step::Looked {
+        seen,
+        used: left,
+        steps,
+    }
+}
+
+// The product of v's operands is taken; it is dropped or met and the two literals are looked at, or it is broken off.
+pub fn multiply(
+    pairs: &mut [u32],
+    places: &mut [u32],
+    diagrams: &mut [u32],
+    stages: &mut [u32],
+    rows: &mut [u32],
+    marks: &mut [u8],
+    task: Task,
+    v: u32,
+    used: usize,
+    steps: usize,
+) -> Step
+    requires due { ⌜ DueIn task v used steps (board (now pairs) (sheets (now diagrams) (now stages) (now rows) (now marks))) ⌝ }
+    requires long { ⌜ 2 * task .count ≤ length (now places) ⌝ }
+    ensures { λ r. ⌜ Takes task v used steps (board (now (pairs .entry)) (sheets (now (diagrams .entry)) (now (stages .entry)) (now (rows .entry)) (now (marks .entry)))) (board (now (pairs .exit)) (sheets (now (diagrams .exit)) (now (stages .exit)) (now (rows .exit)) (now (marks .exit)))) r ⌝ }
+{
+    let product = take_product(&pairs[..], &diagrams[..], rows, task, v, used, steps);
+    match product {
+        Product::Done {
+            reference,
+            used: more,
+            steps,
+        } => conclude(
+            pairs,
+            places,
+            diagrams,
+            stages,
+            rows,
+            marks,
+            task,
+            v,
+            reference,
+            more,
+            used,
+            steps,
+        ),
+        Product::ShortOfRows { used: more, steps } => {
+            break_off(rows, marks, task, v, more, used);
+            Step::Rows { used, steps }
+        }
+        Product::ShortOfSteps { used: more, steps } => {
+            break_off(rows, marks, task, v, more, used);
+            Step::Steps { used, steps }
+        }
+    }
+}

@@ -1,0 +1,74 @@
+-- The ends of a sweep: what the words are, and what was seen decides.
+use Prim.Native.Nat.{ℕ}
+use Rattle.sweep_model.specs.State.{State}
+use Rattle.sweep_model.specs.Sweep.{Progress, ends}
+use Rattle.sweep_parts.specs.Ending.{Closed, Ends, Refers, verdictOf}
+use Rattle.sweep_parts.specs.Look.{SeenRefers, progressOf}
+use Rattle.sweep_parts.specs.Meet.{Board, board}
+use Rattle.sweep_parts.specs.Represents.{Represents}
+use Rattle.sweep_parts.specs.Settle.{onBoard, stateOn}
+use Rattle.sweep_parts.specs.Sheets.{sheets}
+use Rattle.sweep_parts.specs.declared.end.End.the-variants as end
+use Rattle.sweep_parts.specs.declared.end.End.{End}
+use Rattle.sweep_parts.specs.declared.look.Seen.the-variants.{Differ, Equal, Inverse, Nothing}
+use Rattle.sweep_parts.specs.declared.look.Seen.{Seen}
+use Rattle.sweep_parts.specs.declared.task.Task.{Task}
+use Rattle.sweep_turn.specs.Visit.{goingBy}
+use Rattle.sweep_turn.specs.declared.visit.Going.the-variants.{Ended, On}
+use Rattle.sweep_turn.specs.declared.visit.Going.{Going}
+use Rattle.truth.specs.Truth.{Truth}
+use mathlib.Core.List.{List}
+use mathlib.Core.Path.{_∙_, _≡_, ap, subst}
+
+-- Words that stand for a state are those of an end whose references are in use.
+pub represents-closed :
+    {t : Task} {functions : List Truth} {entry : List ℕ} {b : Board} {used steps : ℕ} {e : End} → Represents t functions entry (onBoard b used steps)
+    → Refers (b .sheets .rows) used (t .inputs) e → Closed t functions b used steps e
+represents-closed rep refers =
+    record { store = rep .store; drawn = rep .drawn; refers = refers; counted = rep .reachable .accounted .proper .taken }
+
+-- Whatever the marks are.
+pub marked-closed :
+    {t : Task} {functions : List Truth} {b : Board} {used steps : ℕ} {e : End} (marks : List ℕ) → Closed t functions b used steps e
+    → Closed t functions (board (b .pairs) (sheets (b .sheets .diagrams) (b .sheets .stages) (b .sheets .rows) marks)) used steps e
+marked-closed marks c = record { store = c .store; drawn = c .drawn; refers = c .refers; counted = c .counted }
+
+-- The end of what ended, and another where it goes on.
+abbrev endOr : End → Going → End
+endOr d (Ended e u k) = e
+endOr d (On u k) = d
+
+-- Whether the sweep goes on.
+abbrev Continues : Going → Type 0
+Continues (Ended e u k) = ⊥
+Continues (On u k) = Unit {0}
+
+-- An end after a look is the model's.
+pub seen-ends :
+    (rows : List ℕ) (inputs : ℕ) (s : State) (used steps : ℕ) (seen : Seen) {e : End} → goingBy seen used steps ≡ Ended e used steps
+    → progressOf rows inputs s seen ≡ ends (verdictOf rows inputs e) s
+unfolding progressOf verdictOf
+seen-ends rows inputs s used steps Equal i = ap (λ (g : Going). ends (verdictOf rows inputs (endOr end.Equal g)) s) i
+seen-ends rows inputs s used steps Inverse i = ap (λ (g : Going). ends (verdictOf rows inputs (endOr end.Equal g)) s) i
+seen-ends rows inputs s used steps (Differ x y) i = ap (λ (g : Going). ends (verdictOf rows inputs (endOr end.Equal g)) s) i
+seen-ends rows inputs s used steps Nothing i = absurd (subst Continues i tt)
+
+-- Its references are those seen.
+pub seen-refers :
+    (rows : List ℕ) (inputs used steps : ℕ) (seen : Seen) {e : End} → goingBy seen used steps ≡ Ended e used steps → SeenRefers rows used inputs seen
+    → Refers rows used inputs e
+seen-refers rows inputs used steps Equal i h = subst (λ (g : Going). Refers rows used inputs (endOr end.Equal g)) i tt
+seen-refers rows inputs used steps Inverse i h = subst (λ (g : Going). Refers rows used inputs (endOr end.Equal g)) i tt
+seen-refers rows inputs used steps (Differ x y) i h = subst (λ (g : Going). Refers rows used inputs (endOr end.Equal g)) i h
+seen-refers rows inputs used steps Nothing i h = absurd (subst Continues i tt)
+
+-- The sweep ends after a look.
+pub looked-ends :
+    {t : Task} {functions : List Truth} {entry : List ℕ} {b : Board} {used steps : ℕ} {o : Progress} {e : End} (seen : Seen)
+    → Represents t functions entry (onBoard b used steps) → o ≡ progressOf (b .sheets .rows) (t .inputs) (stateOn t b used steps) seen
+    → SeenRefers (b .sheets .rows) used (t .inputs) seen → goingBy seen used steps ≡ Ended e used steps → Ends t functions o b used steps e
+looked-ends {t} {b = b} {used = used} {steps = steps} seen rep reached refers i =
+    record {
+      reached = reached ∙ seen-ends (b .sheets .rows) (t .inputs) (stateOn t b used steps) used steps seen i;
+      closed = represents-closed rep (seen-refers (b .sheets .rows) (t .inputs) used steps seen i refers);
+    }

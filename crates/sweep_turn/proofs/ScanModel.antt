@@ -1,0 +1,102 @@
+-- The loop of a scan: what follows is what followed from its first vertex.
+use Prim.Native.Nat.{_+_, _-_, _<_, _≤_, suc, ℕ}
+use Rattle.sweep_model.specs.Sweep.{Progress, andThen, scanFrom}
+use Rattle.sweep_parts.specs.Meet.{Board}
+use Rattle.sweep_parts.specs.Words.{posed}
+use Rattle.sweep_parts.specs.declared.end.End.{End}
+use Rattle.sweep_parts.specs.declared.task.Task.{Task}
+use Rattle.sweep_step.specs.Multiply.{Scene}
+use Rattle.sweep_turn.specs.Scan.{Scans, scannedFrom}
+use Rattle.sweep_turn.specs.Visit.{ScanIn, ScanOn, Visits, visited}
+use Rattle.sweep_turn.specs.declared.visit.Going.the-variants.{Ended, On}
+use Rattle.sweep_turn.specs.declared.visit.Going.{Going}
+use lib.ListN.{length}
+use mathlib.Core.List.{List}
+use mathlib.Core.Path.{_∙_, _≡_, ap, refl, subst, sym}
+use native.Mathlib.Numerals.{add-one}
+use native.Mathlib.Omega.{arith}
+
+-- What follows the visit of vertex v.
+scan-turn :
+    (t : Task) (x : Scene) (v used steps : ℕ) (b : Board) → v < t .count
+    → scannedFrom t x v used steps b ≡ andThen (visited t x v used steps b) (scanFrom (posed t (x .functions)) (suc v) (t .count - suc v))
+unfolding scanFrom
+scan-turn t x v used steps b h = let e : t .count - v ≡ suc (t .count - suc v) = omega arith in rw e refl
+
+-- Two boards with as many words.
+pub record SameLengths (b c : Board) : Type 0 where
+  pub pairs : length (c .pairs) ≡ length (b .pairs)
+  pub diagrams : length (c .sheets .diagrams) ≡ length (b .sheets .diagrams)
+  pub stages : length (c .sheets .stages) ≡ length (b .sheets .stages)
+  pub rows : length (c .sheets .rows) ≡ length (b .sheets .rows)
+  pub marks : length (c .sheets .marks) ≡ length (b .sheets .marks)
+
+pub record Scanned (t : Task) (from used₀ steps₀ : ℕ) (b₀ : Board) (places₀ : List ℕ) (v used steps : ℕ) (b : Board) (places : List ℕ) : Type 0 where
+  pub to : v ≤ t .count
+  pub here : (x : Scene) → ScanOn t x from used₀ steps₀ b₀ → ScanOn t x v used steps b
+  pub ahead : (x : Scene) → ScanOn t x from used₀ steps₀ b₀ → scannedFrom t x v used steps b ≡ scannedFrom t x from used₀ steps₀ b₀
+  pub same : SameLengths b₀ b
+  pub same-places : length places ≡ length places₀
+
+pub scan-begins :
+    {t : Task} {from used steps : ℕ} {b : Board} {places : List ℕ} → from ≤ t .count → Scanned t from used steps b places from used steps b places
+scan-begins h =
+    record {
+      to = h;
+      here = λ x o. o;
+      ahead = λ x o. refl;
+      same = record { pairs = refl; diagrams = refl; stages = refl; rows = refl; marks = refl };
+      same-places = refl;
+    }
+
+module _
+    {t : Task} {from used₀ steps₀ : ℕ} {b₀ : Board} {places₀ : List ℕ} {v used steps : ℕ} {b : Board} {places : List ℕ}
+    (s : Scanned t from used₀ steps₀ b₀ places₀ v used steps b places) where
+  pub scan-asks : ScanIn t from used₀ steps₀ b₀ → ScanIn t v used steps b
+  scan-asks i = record { scene = i .scene; here = s .here (i .scene) (i .here) }
+
+  pub scan-goes-on :
+      (after : Board) (last : List ℕ) {g : Going} {u k : ℕ} → v < t .count → g ≡ On u k → Visits t v used steps b after g → SameLengths b after
+      → length last ≡ length places → Scanned t from used₀ steps₀ b₀ places₀ (v + 1) u k after last
+  unfolding andThen
+  scan-goes-on after last {u = u} {k = k} h e visits same same-places =
+      let went = subst (Visits t v used steps b after) e visits in
+      rw (add-one v)
+      (record {
+        to = h;
+        here = λ x o. went x (s .here x o) .here;
+        ahead = λ x o.
+            ap (λ (p : Progress). andThen p (scanFrom (posed t (x .functions)) (suc v) (t .count - suc v))) (sym (went x (s .here x o) .reached))
+            ∙ sym (scan-turn t x v used steps b h) ∙ s .ahead x o;
+        same = record {
+          pairs = same .pairs ∙ s .same .pairs;
+          diagrams = same .diagrams ∙ s .same .diagrams;
+          stages = same .stages ∙ s .same .stages;
+          rows = same .rows ∙ s .same .rows;
+          marks = same .marks ∙ s .same .marks;
+        };
+        same-places = same-places ∙ s .same-places;
+      })
+
+  pub scan-stops :
+      (after : Board) {g : Going} {e : End} {u k : ℕ} → v < t .count → g ≡ Ended e u k → Visits t v used steps b after g
+      → Scans t from used₀ steps₀ b₀ after (Ended e u k)
+  unfolding andThen
+  scan-stops after h e visits = λ x o.
+      let ended = subst (Visits t v used steps b after) e visits x (s .here x o) in
+      record {
+        reached =
+            sym (s .ahead x o) ∙ scan-turn t x v used steps b h
+            ∙ ap (λ (p : Progress). andThen p (scanFrom (posed t (x .functions)) (suc v) (t .count - suc v))) (ended .reached);
+        closed = ended .closed;
+      }
+
+  pub scan-ends : t .count ≤ v → Scans t from used₀ steps₀ b₀ b (On used steps)
+  unfolding scanFrom
+  scan-ends h = λ x o.
+      let e : v ≡ t .count = omega (arith, s .to) in
+      let none : t .count - v ≡ 0 = omega arith in
+      record {
+        reached = sym (s .ahead x o) ∙ rw none refl;
+        here = subst (λ (n : ℕ). ScanOn t x n used steps b) e (s .here x o);
+      }

@@ -1,0 +1,3 @@
+pub mod Visit
+pub mod Scan
+pub mod Turn

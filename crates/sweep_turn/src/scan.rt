@@ -1,0 +1,58 @@
+// A scan: every vertex from one on is visited, upwards.
+use crate::visit::Going;
+use crate::visit::visit;
+use sweep_parts::task::Task;
+ghost use Prim.Native.Nat.{_*_, _≤_};
+ghost use Rattle.sweep_parts.specs.Meet.{board};
+ghost use Rattle.sweep_parts.specs.Sheets.{sheets};
+ghost use Rattle.sweep_turn.specs.Scan.{Scans};
+ghost use Rattle.sweep_turn.specs.Visit.{ScanIn};
+ghost use lib.ListN.{length};
+
+pub fn scan(
+    pairs: &mut [u32],
+    places: &mut [u32],
+    diagrams: &mut [u32],
+    stages: &mut [u32],
+    rows: &mut [u32],
+    marks: &mut [u8],
+    task: Task,
+    from: u32,
+    used: usize,
+    steps: usize,
+) -> Going
+    requires scan { ⌜ ScanIn task from used steps (board (now pairs) (sheets (now diagrams) (now stages) (now rows) (now marks))) ⌝ }
+    requires long { ⌜ (from ≤ task .count) × (2 * task .count ≤ length (now places)) ⌝ }
+    ensures { λ r. ⌜ Scans task from used steps (board (now (pairs .entry)) (sheets (now (diagrams .entry)) (now (stages .entry)) (now (rows .entry)) (now (marks .entry)))) (board (now (pairs .exit)) (sheets (now (diagrams .exit)) (now (stages .exit)) (now (rows .exit)) (now (marks .exit)))) r ⌝ }
+{
+    let count = task.count;
+    let mut v = from;
+    let mut more = used;
+    let mut taken = steps;
+    while v < count {
+        let going = visit(
+            pairs,
+            places,
+            diagrams,
+            stages,
+            rows,
+            marks,
+            task,
+            v,
+            more,
+            taken,
+        );
+        match going {
+            Going::On { used, steps } => {
+                more = used;
+                taken = steps;
+            }
+            Going::Ended { end, used, steps } => return Going::Ended { end, used, steps },
+        }
+        v += 1;
+    }
+    Going::On {
+        used: more,
+        steps: taken,
+    }
+}

@@ -1,0 +1,97 @@
+// Turns: the waiting vertex of least size opens, and a scan follows.
+use crate::scan::scan;
+use crate::visit::Going;
+use sweep_graph::pick::Picked;
+use sweep_graph::pick::pick;
+use sweep_graph::stage::OPENED;
+use sweep_graph::stage::set_stage;
+use sweep_parts::task::Task;
+ghost use Prim.Native.Nat.{_*_, _≤_};
+ghost use Rattle.sweep_parts.specs.Meet.{board};
+ghost use Rattle.sweep_parts.specs.Sheets.{sheets};
+ghost use Rattle.sweep_turn.specs.Turn.{Goes, OpenIn, Opens, RestIn};
+ghost use lib.ListN.{length};
+
+// Vertex v opens, and every higher vertex is visited.
+fn open(
+    pairs: &mut [u32],
+    places: &mut [u32],
+    diagrams: &mut [u32],
+    stages: &mut [u32],
+    rows: &mut [u32],
+    marks: &mut [u8],
+    task: Task,
+    v: u32,
+    used: usize,
+    steps: usize,
+) -> Going
+    requires opening { ⌜ OpenIn task v used steps (board (now pairs) (sheets (now diagrams) (now stages) (now rows) (now marks))) ⌝ }
+    requires long { ⌜ 2 * task .count ≤ length (now places) ⌝ }
+    ensures { λ r. ⌜ Opens task v used steps (board (now (pairs .entry)) (sheets (now (diagrams .entry)) (now (stages .entry)) (now (rows .entry)) (now (marks .entry)))) (board (now (pairs .exit)) (sheets (now (diagrams .exit)) (now (stages .exit)) (now (rows .exit)) (now (marks .exit)))) r ⌝ }
+{
+    set_stage(stages, v, OPENED);
+    scan(
+        pairs,
+        places,
+        diagrams,
+        stages,
+        rows,
+        marks,
+        task,
+        v + 1,
+        used,
+        steps,
+    )
+}
+
+// Turns until the sweep ends or none waits.
+pub fn go(
+    pairs: &mut [u32],
+    places: &mut [u32],
+    diagrams: &mut [u32],
+    stages: &mut [u32],
+    rows: &mut [u32],
+    marks: &mut [u8],
+    task: Task,
+    used: usize,
+    steps: usize,
+) -> Going
+    requires rest { ⌜ RestIn task used steps (board (now pairs) (sheets (now diagrams) (now stages) (now rows) (now marks))) ⌝ }
+    requires long { ⌜ 2 * task .count ≤ length (now places) ⌝ }
+    ensures { λ r. ⌜ Goes task used steps (board (now (pairs .entry)) (sheets (now (diagrams .entry)) (now (stages .entry)) (now (rows .entry)) (now (marks .entry)))) (board (now (pairs .exit)) (sheets (now (diagrams .exit)) (now (stages .exit)) (now (rows .exit)) (now (marks .exit)))) r ⌝ }
+{
+    let mut more = used;
+    let mut taken = steps;
+    loop {
+        let picked = pick(&stages[..], &diagrams[..], task.count);
+        match picked {
+            Picked::At(v) => {
+                let going = open(
+                    pairs,
+                    places,
+                    diagrams,
+                    stages,
+                    rows,
+                    marks,
+                    task,
+                    v,
+                    more,
+                    taken,
+                );
+                match going {
+                    Going::On { used, steps } => {
+                        more = used;
+                        taken = steps;
+                    }
+                    Going::Ended { end, used, steps } => return Going::Ended { end, used, steps },
+                }
+            }
+            Picked::None => {
+                return Going::On {
+                    used: more,
+                    steps: taken,
+                };
+            }
+        }
+    }
+}

@@ -1,0 +1,126 @@
+// The scan's visit of a vertex.
+use aig::literal::Literal;
+use sweep_graph::stage::is_bare;
+use sweep_graph::stage::is_open;
+use sweep_graph::words::first_word;
+use sweep_graph::words::second_word;
+use sweep_model::Cause;
+use sweep_parts::end::End;
+use sweep_parts::look::Seen;
+use sweep_parts::task::Task;
+use sweep_step::multiply::Step;
+use sweep_step::multiply::multiply;
+ghost use Prim.Native.Nat.{_*_, _<_, _≤_};
+ghost use Rattle.aig.specs.Literal.{vertexOf};
+ghost use Rattle.sweep_parts.specs.Meet.{board};
+ghost use Rattle.sweep_parts.specs.Sheets.{sheets};
+ghost use Rattle.sweep_turn.specs.Visit.{ReadyAsked, ScanIn, Visits, goingBy, goingOf, openWord, readyAt};
+ghost use lib.ListN.{length};
+ghost use mathlib.Core.Path.{_≡_};
+
+// The sweep goes on or ends, with the rows then used and the steps taken.
+pub enum Going {
+    On { used: usize, steps: usize },
+    Ended { end: End, used: usize, steps: usize },
+}
+
+fn operand_is_open(stages: &[u32], r: Literal) -> bool
+    requires { ⌜ 2 * vertexOf (r .0) < length (now stages) ⌝ }
+    ensures { λ x. ⌜ x ≡ openWord (now (stages .entry)) (vertexOf (r .0)) ⌝ }
+{
+    is_open(first_word(stages, r.vertex()))
+}
+
+// Whether vertex v is bare, and both its operands are open.
+fn is_ready(pairs: &[u32], stages: &[u32], task: Task, v: u32) -> bool
+    requires { ⌜ ReadyAsked v (now pairs) (now stages) ⌝ }
+    ensures { λ r. ⌜ r ≡ readyAt task v (now (pairs .entry)) (now (stages .entry)) ⌝ }
+{
+    if v < task.first {
+        return false;
+    }
+    if is_bare(first_word(stages, v)) {
+        if operand_is_open(stages, Literal(first_word(pairs, v))) {
+            return operand_is_open(stages, Literal(second_word(pairs, v)));
+        }
+    }
+    false
+}
+
+// How a sweep goes on after what was seen.
+pub fn after_look(seen: Seen, used: usize, steps: usize) -> Going
+    ensures { λ r. ⌜ r ≡ goingBy seen used steps ⌝ }
+{
+    match seen {
+        Seen::Equal => Going::Ended {
+            end: End::Equal,
+            used,
+            steps,
+        },
+        Seen::Inverse => Going::Ended {
+            end: End::Inverse,
+            used,
+            steps,
+        },
+        Seen::Differ(f, g) => Going::Ended {
+            end: End::Differ(f, g),
+            used,
+            steps,
+        },
+        Seen::Nothing => Going::On { used, steps },
+    }
+}
+
+// How a sweep goes on after the product of vertex v.
+fn after_product(step: Step, v: u32) -> Going
+    ensures { λ r. ⌜ r ≡ goingOf v step ⌝ }
+{
+    match step {
+        Step::Looked { seen, used, steps } => after_look(seen, used, steps),
+        Step::Rows { used, steps } => Going::Ended {
+            end: End::Undecided(Cause::Rows(v)),
+            used,
+            steps,
+        },
+        Step::Steps { used, steps } => Going::Ended {
+            end: End::Undecided(Cause::Steps(v)),
+            used,
+            steps,
+        },
+    }
+}
+
+// Vertex v, if it is ready, has its product taken.
+pub fn visit(
+    pairs: &mut [u32],
+    places: &mut [u32],
+    diagrams: &mut [u32],
+    stages: &mut [u32],
+    rows: &mut [u32],
+    marks: &mut [u8],
+    task: Task,
+    v: u32,
+    used: usize,
+    steps: usize,
+) -> Going
+    requires scan { ⌜ ScanIn task v used steps (board (now pairs) (sheets (now diagrams) (now stages) (now rows) (now marks))) ⌝ }
+    requires long { ⌜ (v < task .count) × (2 * task .count ≤ length (now places)) ⌝ }
+    ensures { λ r. ⌜ Visits task v used steps (board (now (pairs .entry)) (sheets (now (diagrams .entry)) (now (stages .entry)) (now (rows .entry)) (now (marks .entry)))) (board (now (pairs .exit)) (sheets (now (diagrams .exit)) (now (stages .exit)) (now (rows .exit)) (now (marks .exit)))) r ⌝ }
+{
+    if is_ready(&pairs[..], &stages[..], task, v) {
+        let step = multiply(
+            pairs,
+            places,
+            diagrams,
+            stages,
+            rows,
+            marks,
+            task,
+            v,
+            used,
+            steps,
+        );
+        return after_product(step, v);
+    }
+    Going::On { used, steps }
+}
