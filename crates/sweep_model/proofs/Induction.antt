@@ -5,7 +5,7 @@ use Rattle.aig.specs.Lookup.{firstWord, secondWord}
 use Rattle.product_model.specs.Run.{Book, Outcome, addPart, done, plain, shortOfRows, shortOfSteps}
 use Rattle.sweep_model.proofs.Choices.{no-turns-no-pick, pick-waits, twin-at}
 use Rattle.sweep_model.proofs.Merger.{merger-scanning, merger-steady}
-use Rattle.sweep_model.proofs.Steady.{Due, Giving, Scanning, Steady, Unsettled, begin-giving, begin-steady, bothHave?, dropped-steady, due-alive, giving-scanning, giving-swept, inputRow, leftNow, opened-steady, openedAt, productOf, rightNow, scanning-dropped, scanning-opened, scanning-passed, scanning-swept, swept-steady}
+use Rattle.sweep_model.proofs.Steady.{Due, Giving, Scanning, Steady, Unsettled, begin-giving, begin-steady, dropped-steady, due-alive, giving-scanning, giving-swept, haveNow?, inputRow, leftNow, opened-steady, openedAt, productOf, rightNow, scanning-dropped, scanning-opened, scanning-passed, scanning-swept, swept-steady}
 use Rattle.sweep_model.specs.Fit.{Fit, vertexCount}
 use Rattle.sweep_model.specs.Normalise.{normalise}
 use Rattle.sweep_model.specs.State.{Problem, State, bare?, functionOf, gone?, literalFunction, open?, stageOf, withBook, withMark}
@@ -38,9 +38,9 @@ pub record Keeps (p : Problem) (entry : List ℕ) (R : Place → State → Type 
   pub inverse-literal : (place : Place) (s : State) → Steady p entry s → R place s → leftNow p s ≡ negate (rightNow p s)
       → W (different (replicate (p .inputs) false)) s
   pub same-function : (place : Place) (s : State) → Steady p entry s → R place s → leftNow p s ≢ rightNow p s → leftNow p s ≢ negate (rightNow p s)
-      → bothHave? p s ≡ true → same? (literalFunction p (leftNow p s)) (literalFunction p (rightNow p s)) ≡ true → W equal s
+      → haveNow? p s ≡ true → same? (literalFunction p (leftNow p s)) (literalFunction p (rightNow p s)) ≡ true → W equal s
   pub other-function : (place : Place) (s : State) → Steady p entry s → R place s → leftNow p s ≢ rightNow p s → leftNow p s ≢ negate (rightNow p s)
-      → bothHave? p s ≡ true → same? (literalFunction p (leftNow p s)) (literalFunction p (rightNow p s)) ≡ false
+      → haveNow? p s ≡ true → same? (literalFunction p (leftNow p s)) (literalFunction p (rightNow p s)) ≡ false
       → W (different (firstDifference (literalFunction p (leftNow p s)) (literalFunction p (rightNow p s)))) s
   -- The first normalising; an input given its row, or the row limit passed there; all inputs have theirs.
   pub begins : R (giving 1) (normalise (p .first) (begin p entry))
@@ -151,7 +151,7 @@ module _ {p : Problem} {entry : List ℕ} (fit : Fit p entry) {R : Place → Sta
       test-claim (eqb (leftNow p s) (rightNow p s)) (λ e. stops (K .same-literal place s h r (eqb-true (leftNow p s) (rightNow p s) e))) λ e.
       test-claim (eqb (leftNow p s) (negate (rightNow p s)))
       (λ f. stops (K .inverse-literal place s h r (eqb-true (leftNow p s) (negate (rightNow p s)) f))) λ f.
-      test-claim (bothHave? p s)
+      test-claim (haveNow? p s)
       (λ g.
       test-claim (same? (literalFunction p (leftNow p s)) (literalFunction p (rightNow p s)))
       (λ i.

@@ -9,7 +9,7 @@ use Rattle.sweep_model.proofs.Induction.{Keeps, Place, Quiet, go-claim,
 use Rattle.sweep_model.proofs.Rows.{resolve-within}
 use Rattle.sweep_model.proofs.Stages.{bare-lacks, has-not-gone, rests-is, stage-cases, stage-within, waits-has}
 use Rattle.sweep_model.proofs.Starving.{Delayed, NoneStarves, by-first, by-second, due-starves, first-alive, first-lower, giving-starves, merger-starves, passed-starves, second-alive, second-lower, starving-set}
-use Rattle.sweep_model.proofs.Steady.{Steady, Unsettled, bothHave?}
+use Rattle.sweep_model.proofs.Steady.{Steady, Unsettled, haveNow?}
 use Rattle.sweep_model.proofs.Tidy.{resolve-unmerged}
 use Rattle.sweep_model.specs.Fit.{Fit, vertexCount}
 use Rattle.sweep_model.specs.Normalise.{resolve, wasMerged?}
@@ -138,7 +138,7 @@ module _ {p : Problem} {entry : List ℕ} {s : State} (rest : Rest p entry s) wh
         (stage-cases (stageOf (s .stages) v) (rest .steady .staged .gone-merged v l ∙ m))
 
     -- So both literals looked at have diagrams.
-    pub both-have : Fit p entry → bothHave? p s ≡ true
+    pub both-have : Fit p entry → haveNow? p s ≡ true
     both-have fit = ap₂ _&&_ (one (p .left) (fit .well-formed .left-within)) (one (p .right) (fit .well-formed .right-within))
       where
         one : (r : ℕ) → r < 2 * vertexCount p → has? (stageOf (s .stages) (vertexOf (resolve (s .rows) r))) ≡ true

@@ -12,7 +12,7 @@ use Rattle.sweep_model.proofs.Turns.{takes-turns, turns-set, waiting-tu
 use Rattle.sweep_model.specs.Fit.{Fit, Sound, WellFormed, vertexCount}
 use Rattle.sweep_model.specs.Normalise.{normalise, normaliseFrom, resolve, wasMerged?}
 use Rattle.sweep_model.specs.State.{Problem, Stage, State, bare, bare?, dropped, functionOf, gone, gone?, has?, literalFunction, open?, opened, stageOf, waiting, waits?, withBook, withMark, withStages}
-use Rattle.sweep_model.specs.Sweep.{begin, drop, swept, topPart, turnsLeft, turnsOf}
+use Rattle.sweep_model.specs.Sweep.{begin, bothHave?, drop, swept, topPart, turnsLeft, turnsOf}
 use Rattle.truth.proofs.Booleans.{clash}
 use lib.ListN.{getD-replicate, length, length-replicate, length-set, replicate, set}
 use lib.Seq.{getD-set-other, getD-set-same}
@@ -40,14 +40,14 @@ abbrev pub rightNow : Problem → State → ℕ
 rightNow p s = resolve (s .rows) (p .right)
 
 -- Whether both have diagrams.
-abbrev pub bothHave? : Problem → State → Bool
-bothHave? p s = has? (stageOf (s .stages) (vertexOf (leftNow p s))) && has? (stageOf (s .stages) (vertexOf (rightNow p s)))
+abbrev pub haveNow? : Problem → State → Bool
+haveNow? p s = bothHave? (s .stages) (leftNow p s) (rightNow p s)
 
 -- They have been looked at, and nothing was decided.
 pub record Unsettled (p : Problem) (s : State) : Type 0 where
   pub unequal : leftNow p s ≢ rightNow p s
   pub not-inverse : leftNow p s ≢ negate (rightNow p s)
-  pub lacking : bothHave? p s ≡ false
+  pub lacking : haveNow? p s ≡ false
 
 -- The inputs below vertex k have their rows; no other vertex has a diagram.
 pub record Giving (p : Problem) (k : ℕ) (s : State) : Type 0 where
@@ -300,7 +300,7 @@ scanning-opened {p} n v s h w c =
           record {
             unequal = c .unsettled .unequal;
             not-inverse = c .unsettled .not-inverse;
-            lacking = ap₂ _&&_ (same (vertexOf (leftNow p s))) (same (vertexOf (rightNow p s))) ∙ c .unsettled .lacking;
+            lacking = rw (same (vertexOf (leftNow p s)), same (vertexOf (rightNow p s))) (c .unsettled .lacking);
           };
     }
   where
