@@ -1,7 +1,7 @@
 -- Demand 1 for a comparison: a good call is not refused.
 use Prim.Native.Nat.{_*_, ℕ}
 use Rattle.compare_model.proofs.RefusalLaws.{compared-answered}
-use Rattle.compare_model.specs.Compare.{Given, Room, answerTo, answered, beyond?, callTests, compared, maxRows, maxSteps, outside?, refusalOf, shortSlice?, sliceWords}
+use Rattle.compare_model.specs.Compare.{Given, Room, answerTo, answered, beyond?, callTests, compared, outside?, refusalOf, shortSlice?, sliceWords}
 use Rattle.compare_model.specs.Demand1.{Answers, Good, says-different, says-equal, says-undecided}
 use Rattle.compare_model.specs.Passed.{Enough, LimitsWithin, Passed, Within}
 use Rattle.sweep_model.specs.Reply.{countsOf, replyOf, replyWith}
@@ -12,11 +12,11 @@ use Rattle.table.proofs.AcceptedLaws.{accepts}
 use Rattle.table.proofs.FitsLaws.{fits-accepted}
 use Rattle.table.proofs.RefusalLaws.{table-passed}
 use Rattle.table.specs.Refusals.{firstRefusal}
-use Rattle.table.specs.Table.{inputsOf, outputsOf, verticesOf}
+use Rattle.table.specs.Table.{inputsOf, outputsOf}
 use borrow.Author.Tests.{le-leb, le-ltb, lt-leb}
 use lib.ListN.{length}
 use mathlib.Core.Bool.{false}
-use mathlib.Core.Path.{_∙_, _≡_, ap, refl, subst⁻¹}
+use mathlib.Core.Path.{_∙_, _≡_, refl}
 
 -- Test 13 does not apply to limits within theirs.
 limit-inside : {most n : ℕ} → Within most n → outside? most n ≡ false

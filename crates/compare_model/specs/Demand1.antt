@@ -1,8 +1,8 @@
 -- Demand 1 for a comparison: what a good call is given, word by word and with the paper's own numbers.
 use Prim.Native.Nat.{_*_, _+_, _<_, _≤_, ℕ}
 use Rattle.compare_model.specs.Compare.{Given}
-use Rattle.sweep_model.specs.declared.Counts.{Counts}
 use Rattle.sweep_model.specs.declared.Cause.{Cause}
+use Rattle.sweep_model.specs.declared.Counts.{Counts}
 use Rattle.sweep_model.specs.declared.Reply.the-variants.{Different, Equal, Undecided}
 use Rattle.sweep_model.specs.declared.Reply.{Reply}
 use Rattle.table.specs.Fits.{Fits, word}
