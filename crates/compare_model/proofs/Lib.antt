@@ -1,4 +1,5 @@
 pub mod RefusalLaws
+pub mod Demand1
 pub mod GraphLaws
 pub mod LeftLaws
 pub mod Since

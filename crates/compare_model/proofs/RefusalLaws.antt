@@ -1,6 +1,6 @@
 -- A comparison is refused, or every bound holds and the sweep answers.
 use Prim.Native.Nat.{_*_, ℕ}
-use Rattle.compare_model.specs.Compare.{Given, Room, answerTo, answered, beyond?, compared, maxRows, maxSteps, outside?, refusalOf, shortSlice?, turnedBack}
+use Rattle.compare_model.specs.Compare.{Given, Room, answerTo, answered, beyond?, compared, maxRows, maxSteps, outside?, refusalOf, shortSlice?, sliceWords, turnedBack}
 use Rattle.compare_model.specs.Passed.{Enough, LimitsWithin, Passed, Within}
 use Rattle.sweep_model.specs.State.{Limits}
 use Rattle.table.proofs.AcceptedLaws.{accepted}
@@ -42,25 +42,25 @@ slices-enough vertices rows r marks h =
     let t = neither (pairs || look) diagrams (s .0) in
     let u = neither pairs look (t .0) in
     record {
-      pairs = ltb-false (r .pairs) (2 * vertices) (u .0);
-      look = ltb-false (r .look) (2 * vertices) (u .1);
-      diagrams = ltb-false (r .diagrams) (2 * vertices) (t .1);
-      stages = ltb-false (r .stages) (2 * vertices) (s .1);
+      pairs = ltb-false (r .pairs) (sliceWords vertices) (u .0);
+      look = ltb-false (r .look) (sliceWords vertices) (u .1);
+      diagrams = ltb-false (r .diagrams) (sliceWords vertices) (t .1);
+      stages = ltb-false (r .stages) (sliceWords vertices) (s .1);
       diagram-rows = ltb-false (r .rows) (4 * rows) (q .1);
       marked = ltb-false marks vertices (p .1);
     }
   where
     pairs : Bool
-    pairs = ltb (r .pairs) (2 * vertices)
+    pairs = ltb (r .pairs) (sliceWords vertices)
 
     look : Bool
-    look = ltb (r .look) (2 * vertices)
+    look = ltb (r .look) (sliceWords vertices)
 
     diagrams : Bool
-    diagrams = ltb (r .diagrams) (2 * vertices)
+    diagrams = ltb (r .diagrams) (sliceWords vertices)
 
     stages : Bool
-    stages = ltb (r .stages) (2 * vertices)
+    stages = ltb (r .stages) (sliceWords vertices)
 
     diagram-rows : Bool
     diagram-rows = ltb (r .rows) (4 * rows)

@@ -53,11 +53,15 @@ outside? most n = not (leb 1 n) || ltb most n
 unfoldable pub beyond? : Limits → Bool
 beyond? l = outside? maxRows (l .size) || outside? maxRows (l .rows) || outside? maxSteps (l .steps)
 
+-- "2 words a vertex"
+abbrev pub sliceWords : ℕ → ℕ
+sliceWords vertices = 2 * vertices
+
 -- "14. A working slice is short: four slices of 2 words a vertex .., compare also 4 words a row of the limit and the marks"
 unfoldable pub shortSlice? : ℕ → ℕ → Room → ℕ → Bool
 shortSlice? vertices rows r marks =
-    ltb (r .pairs) (2 * vertices) || ltb (r .look) (2 * vertices) || ltb (r .diagrams) (2 * vertices) || ltb (r .stages) (2 * vertices)
-    || ltb (r .rows) (4 * rows) || ltb marks vertices
+    ltb (r .pairs) (sliceWords vertices) || ltb (r .look) (sliceWords vertices) || ltb (r .diagrams) (sliceWords vertices)
+    || ltb (r .stages) (sliceWords vertices) || ltb (r .rows) (4 * rows) || ltb marks vertices
 
 -- "12. .. the output number is too high.", "15. The setting slice is shorter than the inputs.": the tests after those of the table, by
 -- the lengths of the slices, the marks and the setting.

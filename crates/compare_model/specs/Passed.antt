@@ -1,6 +1,6 @@
 -- What is known of a comparison that is not refused.
 use Prim.Native.Nat.{_*_, _<_, _≤_, ℕ}
-use Rattle.compare_model.specs.Compare.{Given, Room, maxRows, maxSteps}
+use Rattle.compare_model.specs.Compare.{Given, Room, maxRows, maxSteps, sliceWords}
 use Rattle.sweep_model.specs.State.{Limits}
 use Rattle.table.specs.Accepted.{Accepted}
 use Rattle.table.specs.Table.{inputsOf, outputsOf, verticesOf}
@@ -19,10 +19,10 @@ pub record LimitsWithin (l : Limits) : Type 0 where
 
 -- The working slices and the marks are long enough.
 pub record Enough (vertices rows : ℕ) (r : Room) (marks : ℕ) : Type 0 where
-  pub pairs : 2 * vertices ≤ r .pairs
-  pub look : 2 * vertices ≤ r .look
-  pub diagrams : 2 * vertices ≤ r .diagrams
-  pub stages : 2 * vertices ≤ r .stages
+  pub pairs : sliceWords vertices ≤ r .pairs
+  pub look : sliceWords vertices ≤ r .look
+  pub diagrams : sliceWords vertices ≤ r .diagrams
+  pub stages : sliceWords vertices ≤ r .stages
   pub diagram-rows : 4 * rows ≤ r .rows
   pub marked : vertices ≤ marks
 

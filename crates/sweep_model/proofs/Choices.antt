@@ -1,14 +1,17 @@
 -- What the searches of the sweep find: the twin of a vertex, the vertex that is picked, and no vertex that is dropped.
 use Prim.Native.Nat.{_+_, _-_, _<_, _≤_, suc, zero, ℕ}
 use Rattle.sweep_model.proofs.Turns.{no-turns, waiting-turns}
+use Rattle.sweep_model.specs.Choices.{Opens}
 use Rattle.sweep_model.specs.State.{Problem, Stage, dropped?, functionOf, has?, stageOf, waits?}
 use Rattle.sweep_model.specs.Sweep.{Twin, anyDropped?, at, none, pickFrom, smaller, turnsLeft, twinFrom}
 use Rattle.truth.proofs.Booleans.{and-left, and-right, clash, not-true, or-left, or-right}
 use Rattle.truth.specs.Parts.{alike?, size}
+use borrow.Author.Tests.{leb-false, leb-true}
 use lib.Dec.{leb}
 use mathlib.Core.Bool.{Bool, _&&_, cond, false, true}
 use mathlib.Core.List.{List, [], _∷_}
-use mathlib.Core.Path.{_∙_, _≡_, ap, refl, subst}
+use mathlib.Core.Logic.{_⊎_, inl, inr}
+use mathlib.Core.Path.{_∙_, _≡_, ap, refl, subst, sym}
 use native.Mathlib.Decide.{ℕ-discrete}
 use native.Mathlib.Omega.{arith}
 
@@ -79,47 +82,115 @@ module _ (p : Problem) (stages : List Stage) (v : ℕ) where
   unfolding Says
   twin-none k n e = subst (Says k n) e (says n k)
 
--- What a pick among the stages from vertex k on says.
-Picks : ℕ → List Stage → Twin → Type 0
-Picks k stages (at v) = (k ≤ v) × (waits? (stageOf stages (v - k)) ≡ true)
-Picks k stages none = (i : ℕ) → waits? (stageOf stages i) ≡ false
+-- The vertex picked among the stages from vertex k on.
+record Least (p : Problem) (k : ℕ) (stages : List Stage) (v : ℕ) : Type 0 where
+  from : k ≤ v
+  waits : waits? (stageOf stages (v - k)) ≡ true
+  least : (w : ℕ) → k ≤ w → waits? (stageOf stages (w - k)) ≡ true → size (functionOf p v) ≤ size (functionOf p w)
+  lowest : (w : ℕ) → k ≤ w → waits? (stageOf stages (w - k)) ≡ true → size (functionOf p v) ≡ size (functionOf p w) → v ≤ w
 
-picks : (p : Problem) (stages : List Stage) (k : ℕ) → Picks k stages (pickFrom p k stages)
+-- What a pick among them says.
+Picks : Problem → ℕ → List Stage → Twin → Type 0
+Picks p k stages (at v) = Least p k stages v
+Picks p k stages none = (i : ℕ) → waits? (stageOf stages i) ≡ false
+
+module _ (p : Problem) (x : Stage) (stages : List Stage) (k : ℕ) where
+  -- The stage of a later vertex, of vertex k, and of either.
+  later-stage : (w : ℕ) → suc k ≤ w → stageOf (x ∷ stages) (w - k) ≡ stageOf stages (w - suc k)
+  later-stage w l = let i : w - k ≡ suc (w - suc k) = omega arith in rw i refl
+
+  own-stage : stageOf (x ∷ stages) (k - k) ≡ x
+  own-stage = let i : k - k ≡ 0 = omega arith in rw i refl
+
+  waits-own-or-later : (w : ℕ) → k ≤ w → waits? (stageOf (x ∷ stages) (w - k)) ≡ true
+      → ((w ≡ k) × (waits? x ≡ true)) ⊎ ((suc k ≤ w) × (waits? (stageOf stages (w - suc k)) ≡ true))
+  waits-own-or-later w l e =
+      elim (ℕ-discrete w k) [
+        | yes i ↦ inl (i, ap waits? (sym own-stage) ∙ subst (λ (u : ℕ). waits? (stageOf (x ∷ stages) (u - k)) ≡ true) i e)
+        | no i ↦ inr (omega arith, ap waits? (sym (later-stage w (omega arith))) ∙ e)
+      ]
+
+  -- Vertex k is picked: none after it waits, or the one picked among those is not smaller.
+  own-least : waits? x ≡ true
+      → ((w : ℕ) → suc k ≤ w → waits? (stageOf stages (w - suc k)) ≡ true → size (functionOf p k) ≤ size (functionOf p w)) → Least p k (x ∷ stages) k
+  own-least e rest =
+      record {
+        from = omega arith;
+        waits = ap waits? own-stage ∙ e;
+        least =
+            λ w l h.
+            elim (waits-own-or-later w l h) [
+              | inl i ↦ let z = ap (λ (u : ℕ). size (functionOf p u)) (i .0) in omega (arith, z)
+              | inr i ↦ rest w (i .0) (i .1)
+            ];
+        lowest = λ w l h i. l;
+      }
+
+  -- One after it is picked: vertex k does not wait, or is larger.
+  later-least : (v : ℕ) → Least p (suc k) stages v → (waits? x ≡ true → size (functionOf p v) < size (functionOf p k)) → Least p k (x ∷ stages) v
+  later-least v s larger =
+      record {
+        from = omega (arith, s .from);
+        waits = ap waits? (later-stage v (s .from)) ∙ s .waits;
+        least =
+            λ w l h.
+            elim (waits-own-or-later w l h) [
+              | inl i ↦ let z = ap (λ (u : ℕ). size (functionOf p u)) (i .0) in omega (arith, z, larger (i .1))
+              | inr i ↦ s .least w (i .0) (i .1)
+            ];
+        lowest =
+            λ w l h e.
+            elim (waits-own-or-later w l h) [
+              | inl i ↦ let z = ap (λ (u : ℕ). size (functionOf p u)) (i .0) in absurd (omega (arith, z, larger (i .1), e))
+              | inr i ↦ s .lowest w (i .0) (i .1) e
+            ];
+      }
+
+picks : (p : Problem) (stages : List Stage) (k : ℕ) → Picks p k stages (pickFrom p k stages)
 unfolding pickFrom smaller Picks waits?
 picks p [] k = λ i. refl
 picks p (x ∷ stages) k = go (waits? x) refl (pickFrom p (suc k) stages) (picks p stages (suc k))
   where
-    later : (v : ℕ) → suc k ≤ v → waits? (stageOf stages (v - suc k)) ≡ true → waits? (stageOf (x ∷ stages) (v - k)) ≡ true
-    later v l e = let i : v - k ≡ suc (v - suc k) = omega arith in rw i e
-
-    here : waits? x ≡ true → waits? (stageOf (x ∷ stages) (k - k)) ≡ true
-    here e = let i : k - k ≡ 0 = omega arith in rw i e
-
-    less : waits? x ≡ true → (o : Twin) → Picks (suc k) stages o → Picks k (x ∷ stages) (at (smaller p k o))
-    less e none s = (omega arith, here e)
-    less e (at w) s = pick (leb (size (functionOf p k)) (size (functionOf p w)))
+    less : waits? x ≡ true → (o : Twin) → Picks p (suc k) stages o → Picks p k (x ∷ stages) (at (smaller p k o))
+    less e none s = own-least p x stages k e (λ w l h. clash h (s (w - suc k)))
+    less e (at w) s = pick (leb (size (functionOf p k)) (size (functionOf p w))) refl
       where
-        pick : (b : Bool) → (k ≤ cond b k w) × (waits? (stageOf (x ∷ stages) (cond b k w - k)) ≡ true)
-        pick true = (omega arith, here e)
-        pick false = (omega (arith, s .0), later w (s .0) (s .1))
+        pick : (b : Bool) → leb (size (functionOf p k)) (size (functionOf p w)) ≡ b → Least p k (x ∷ stages) (cond b k w)
+        pick true i =
+            own-least p x stages k e
+            (λ u l h. omega (arith, leb-true (size (functionOf p k)) (size (functionOf p w)) i, s .least u l h))
+        pick false i = later-least p x stages k w s (λ h. leb-false (size (functionOf p k)) (size (functionOf p w)) i)
 
-    go : (b : Bool) → waits? x ≡ b → (o : Twin) → Picks (suc k) stages o → Picks k (x ∷ stages) (cond b (at (smaller p k o)) o)
+    go : (b : Bool) → waits? x ≡ b → (o : Twin) → Picks p (suc k) stages o → Picks p k (x ∷ stages) (cond b (at (smaller p k o)) o)
     go true e o s = less e o s
-    go false e (at w) s = (omega (arith, s .0), later w (s .0) (s .1))
+    go false e (at w) s = later-least p x stages k w s (λ h. clash h e)
     go false e none s = λ i. elim i [ zero ↦ e | suc j ↦ s j ]
+
+-- "The waiting vertex of least size opens, lowest number on a tie.": a vertex that is picked is that one.
+pub pick-least : (p : Problem) (stages : List Stage) (v : ℕ) → pickFrom p 0 stages ≡ at v → Opens p stages v
+unfolding Picks
+pick-least p stages v e =
+    let s = subst (Picks p 0 stages) e (picks p stages 0) in
+    record {
+      waits = from-none v (s .waits);
+      least = λ w h. s .least w (omega arith) (to-none w h);
+      lowest = λ w h i. s .lowest w (omega arith) (to-none w h) i;
+    }
+  where
+    from-none : (w : ℕ) → waits? (stageOf stages (w - 0)) ≡ true → waits? (stageOf stages w) ≡ true
+    from-none w h = let i : w - 0 ≡ w = omega arith in rw i at h
+
+    to-none : (w : ℕ) → waits? (stageOf stages w) ≡ true → waits? (stageOf stages (w - 0)) ≡ true
+    to-none w h = let i : w - 0 ≡ w = omega arith in rw i h
 
 -- A vertex that is picked waits.
 pub pick-waits : (p : Problem) (stages : List Stage) (v : ℕ) → pickFrom p 0 stages ≡ at v → waits? (stageOf stages v) ≡ true
-unfolding Picks
-pick-waits p stages v e =
-    let s = subst (Picks 0 stages) e (picks p stages 0) in
-    let i : v - 0 ≡ v = omega arith in
-    rw i at (s .1)
+pick-waits p stages v e = pick-least p stages v e .waits
 
 -- Where none is picked none waits.
 pub pick-none : (p : Problem) (stages : List Stage) → pickFrom p 0 stages ≡ none → (v : ℕ) → waits? (stageOf stages v) ≡ false
 unfolding Picks
-pick-none p stages e = subst (Picks 0 stages) e (picks p stages 0)
+pick-none p stages e = subst (Picks p 0 stages) e (picks p stages 0)
 
 -- Where no turns are left none is picked.
 pub no-turns-no-pick : (p : Problem) (stages : List Stage) → turnsLeft stages ≡ 0 → pickFrom p 0 stages ≡ none

@@ -9,7 +9,7 @@ use Rattle.sweep_model.proofs.Steady.{begin-giving, begin-steady, dropp
 use Rattle.sweep_model.specs.Fit.{Fit, vertexCount}
 use Rattle.sweep_model.specs.Normalise.{normalise}
 use Rattle.sweep_model.specs.State.{Problem, State, bare?, functionOf, gone?, literalFunction, open?, stageOf, withBook, withMark}
-use Rattle.sweep_model.specs.Steady.{Due, Giving, Scanning, Steady, Unsettled, bothHave?, leftNow, productOf, rightNow}
+use Rattle.sweep_model.specs.Steady.{Due, Giving, Scanning, Steady, Unsettled, haveNow?, leftNow, productOf, rightNow}
 use Rattle.sweep_model.specs.Sweep.{Progress, Twin, Verdict, andThen, answerOf, at, begin, cause, conclude, different, drop, ends, equal, giveRow, givenBack, go, goFor, inputsFrom, look, lookAt, meet, multiply, none, on, openAt, pickFrom, ready?, scanFrom, start, sweep, swept, topPart, turnsLeft, twinFrom, undecided, visit}
 use Rattle.sweep_model.specs.declared.Cause.the-variants.{Rows, Steps}
 use Rattle.truth.proofs.Booleans.{and-left, and-right}
@@ -39,9 +39,9 @@ pub record Keeps (p : Problem) (entry : List ℕ) (R : Place → State → Type 
   pub inverse-literal : (place : Place) (s : State) → Steady p entry s → R place s → leftNow p s ≡ negate (rightNow p s)
       → W (different (replicate (p .inputs) false)) s
   pub same-function : (place : Place) (s : State) → Steady p entry s → R place s → leftNow p s ≢ rightNow p s → leftNow p s ≢ negate (rightNow p s)
-      → bothHave? p s ≡ true → same? (literalFunction p (leftNow p s)) (literalFunction p (rightNow p s)) ≡ true → W equal s
+      → haveNow? p s ≡ true → same? (literalFunction p (leftNow p s)) (literalFunction p (rightNow p s)) ≡ true → W equal s
   pub other-function : (place : Place) (s : State) → Steady p entry s → R place s → leftNow p s ≢ rightNow p s → leftNow p s ≢ negate (rightNow p s)
-      → bothHave? p s ≡ true → same? (literalFunction p (leftNow p s)) (literalFunction p (rightNow p s)) ≡ false
+      → haveNow? p s ≡ true → same? (literalFunction p (leftNow p s)) (literalFunction p (rightNow p s)) ≡ false
       → W (different (firstDifference (literalFunction p (leftNow p s)) (literalFunction p (rightNow p s)))) s
   -- The first normalising; an input given its row, or the row limit passed there; all inputs have theirs.
   pub begins : R (giving 1) (normalise (p .first) (begin p entry))
@@ -152,7 +152,7 @@ module _ {p : Problem} {entry : List ℕ} (fit : Fit p entry) {R : Place → Sta
       test-claim (eqb (leftNow p s) (rightNow p s)) (λ e. stops (K .same-literal place s h r (eqb-true (leftNow p s) (rightNow p s) e))) λ e.
       test-claim (eqb (leftNow p s) (negate (rightNow p s)))
       (λ f. stops (K .inverse-literal place s h r (eqb-true (leftNow p s) (negate (rightNow p s)) f))) λ f.
-      test-claim (bothHave? p s)
+      test-claim (haveNow? p s)
       (λ g.
       test-claim (same? (literalFunction p (leftNow p s)) (literalFunction p (rightNow p s)))
       (λ i.

@@ -14,6 +14,7 @@ pub mod Induction
 pub mod Bound
 pub mod Kept
 pub mod Right
+pub mod SaysDifferent
 pub mod Marked
 pub mod Inputs
 pub mod Products

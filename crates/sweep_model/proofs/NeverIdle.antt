@@ -13,7 +13,7 @@ use Rattle.sweep_model.proofs.Tidy.{resolve-unmerged}
 use Rattle.sweep_model.specs.Fit.{Fit, vertexCount}
 use Rattle.sweep_model.specs.Normalise.{resolve, wasMerged?}
 use Rattle.sweep_model.specs.State.{Problem, Stage, State, bare?, dropped, dropped?, gone?, has?, opened, stageOf, waiting, waits?}
-use Rattle.sweep_model.specs.Steady.{Steady, Unsettled, bothHave?}
+use Rattle.sweep_model.specs.Steady.{Steady, Unsettled, haveNow?}
 use Rattle.sweep_model.specs.Sweep.{anyDropped?, drop, go, on, start, sweep, swept, turnsLeft, undecided}
 use Rattle.sweep_model.specs.declared.Cause.the-variants.{Idle}
 use Rattle.truth.proofs.Booleans.{clash}
@@ -138,7 +138,7 @@ module _ {p : Problem} {entry : List ℕ} {s : State} (rest : Rest p entry s) wh
         (stage-cases (stageOf (s .stages) v) (rest .steady .staged .gone-merged v l ∙ m))
 
     -- So both literals looked at have diagrams.
-    pub both-have : Fit p entry → bothHave? p s ≡ true
+    pub both-have : Fit p entry → haveNow? p s ≡ true
     both-have fit = ap₂ _&&_ (one (p .left) (fit .well-formed .left-within)) (one (p .right) (fit .well-formed .right-within))
       where
         one : (r : ℕ) → r < 2 * vertexCount p → has? (stageOf (s .stages) (vertexOf (resolve (s .rows) r))) ≡ true

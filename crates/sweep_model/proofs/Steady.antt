@@ -16,7 +16,7 @@ use Rattle.sweep_model.specs.Sweep.{begin, drop, swept, topPart, turnsLe
 use Rattle.truth.proofs.Booleans.{clash}
 use lib.ListN.{getD-replicate, length, length-replicate, length-set, replicate, set}
 use lib.Seq.{getD-set-other, getD-set-same}
-use mathlib.Core.Bool.{_&&_, _||_, false, true}
+use mathlib.Core.Bool.{_||_, false, true}
 use mathlib.Core.List.{List}
 use mathlib.Core.Logic.{_≢_}
 use mathlib.Core.Path.{_∙_, _≡_, ap, ap₂, refl, sym}
@@ -247,7 +247,7 @@ scanning-opened {p} n v s h w c =
           record {
             unequal = c .unsettled .unequal;
             not-inverse = c .unsettled .not-inverse;
-            lacking = ap₂ _&&_ (same (vertexOf (leftNow p s))) (same (vertexOf (rightNow p s))) ∙ c .unsettled .lacking;
+            lacking = rw (same (vertexOf (leftNow p s)), same (vertexOf (rightNow p s))) (c .unsettled .lacking);
           };
     }
   where

@@ -1,5 +1,6 @@
 pub mod State
 pub mod Normalise
+pub mod Choices
 pub mod Fit
 pub mod Sweep
 pub mod Reply

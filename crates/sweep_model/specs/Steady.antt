@@ -9,9 +9,9 @@ use Rattle.product_model.specs.Run.{Outcome, run}
 use Rattle.sweep_model.specs.Fit.{Sound, vertexCount}
 use Rattle.sweep_model.specs.Normalise.{merged?, resolve, wasMerged?}
 use Rattle.sweep_model.specs.State.{Problem, Stage, State, bare, bare?, gone?, has?, literalFunction, open?, opened, stageOf, waiting}
-use Rattle.sweep_model.specs.Sweep.{turnsLeft}
+use Rattle.sweep_model.specs.Sweep.{bothHave?, turnsLeft}
 use lib.ListN.{length}
-use mathlib.Core.Bool.{Bool, _&&_, false, true}
+use mathlib.Core.Bool.{Bool, false, true}
 use mathlib.Core.List.{List}
 use mathlib.Core.Logic.{_≢_}
 use mathlib.Core.Path.{_≡_}
@@ -55,14 +55,14 @@ abbrev pub rightNow : Problem → State → ℕ
 rightNow p s = resolve (s .rows) (p .right)
 
 -- Whether both have diagrams.
-abbrev pub bothHave? : Problem → State → Bool
-bothHave? p s = has? (stageOf (s .stages) (vertexOf (leftNow p s))) && has? (stageOf (s .stages) (vertexOf (rightNow p s)))
+abbrev pub haveNow? : Problem → State → Bool
+haveNow? p s = bothHave? (s .stages) (leftNow p s) (rightNow p s)
 
 -- They have been looked at, and nothing was decided.
 pub record Unsettled (p : Problem) (s : State) : Type 0 where
   pub unequal : leftNow p s ≢ rightNow p s
   pub not-inverse : leftNow p s ≢ negate (rightNow p s)
-  pub lacking : bothHave? p s ≡ false
+  pub lacking : haveNow? p s ≡ false
 
 -- The inputs below vertex k have their rows; no other vertex has a diagram.
 pub record Giving (p : Problem) (k : ℕ) (s : State) : Type 0 where

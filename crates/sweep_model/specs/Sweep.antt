@@ -30,13 +30,17 @@ unfoldable pub andThen : Progress → (State → Progress) → Progress
 andThen (on s) next = next s
 andThen (ends x s) next = ends x s
 
+-- "both have diagrams"
+abbrev pub bothHave? : List Stage → ℕ → ℕ → Bool
+bothHave? stages l r = has? (stageOf stages (vertexOf l)) && has? (stageOf stages (vertexOf r))
+
 -- "2. If both outputs are now one reference, Equal. If they are inverse, Different with all inputs 0." "5. .. if both have diagrams
 -- and are not one reference, Different.": two functions with diagrams are compared themselves.
 unfoldable pub lookAt : Problem → State → ℕ → ℕ → Progress
 lookAt p s l r =
     cond (eqb l r) (ends equal s)
     (cond (eqb l (negate r)) (ends (different (replicate (p .inputs) false)) s)
-    (cond (has? (stageOf (s .stages) (vertexOf l)) && has? (stageOf (s .stages) (vertexOf r)))
+    (cond (bothHave? (s .stages) l r)
     (cond (same? (literalFunction p l) (literalFunction p r)) (ends equal s)
     (ends (different (firstDifference (literalFunction p l) (literalFunction p r))) s))
     (on s)))

@@ -3,7 +3,7 @@ use Prim.Native.Nat.{_-_, ℕ}
 use Rattle.aig.specs.Literal.{negate}
 use Rattle.sweep_model.proofs.Steady.{giving-scanning}
 use Rattle.sweep_model.specs.State.{Problem, State, literalFunction}
-use Rattle.sweep_model.specs.Steady.{Scanning, Unsettled, bothHave?, leftNow, rightNow}
+use Rattle.sweep_model.specs.Steady.{Scanning, Unsettled, haveNow?, leftNow, rightNow}
 use Rattle.sweep_model.specs.Sweep.{Progress, Verdict, andThen, different, ends, equal, inputsFrom, look, lookAt, on, start, turnsLeft}
 use Rattle.sweep_model.specs.declared.Cause.the-variants.{Rows}
 use Rattle.sweep_parts.proofs.LookModel.{look-models, look-refers, looks}
@@ -41,14 +41,14 @@ use native.Mathlib.Omega.{arith}
 look-unsettled : (p : Problem) (s z : State) → look p s ≡ on z → Unsettled p s
 unfolding look lookAt
 look-unsettled p s z e =
-    go (eqb (leftNow p s) (rightNow p s)) refl (eqb (leftNow p s) (negate (rightNow p s))) refl (bothHave? p s) refl
+    go (eqb (leftNow p s) (rightNow p s)) refl (eqb (leftNow p s) (negate (rightNow p s))) refl (haveNow? p s) refl
     (same? (literalFunction p (leftNow p s)) (literalFunction p (rightNow p s))) e
   where
     over : {x : Verdict} → ends x s ≡ on z → Unsettled p s
     over h = absurd (let i : _≡_ {A = ℕ} 0 1 = cc in omega arith)
 
     go : (a : Bool) → eqb (leftNow p s) (rightNow p s) ≡ a → (b : Bool) → eqb (leftNow p s) (negate (rightNow p s)) ≡ b → (c : Bool)
-        → bothHave? p s ≡ c → (d : Bool)
+        → haveNow? p s ≡ c → (d : Bool)
         → cond a (ends equal s)
         (cond b (ends (different (replicate (p .inputs) false)) s)
         (cond c

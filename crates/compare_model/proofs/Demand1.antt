@@ -1,0 +1,92 @@
+-- Demand 1 for a comparison: a good call is not refused.
+use Prim.Native.Nat.{_*_, ℕ}
+use Rattle.compare_model.proofs.RefusalLaws.{compared-answered}
+use Rattle.compare_model.specs.Compare.{Given, Room, answerTo, answered, beyond?, callTests, compared, outside?, refusalOf, shortSlice?, sliceWords}
+use Rattle.compare_model.specs.Demand1.{Answers, Good, says-different, says-equal, says-undecided}
+use Rattle.compare_model.specs.Passed.{Enough, LimitsWithin, Passed, Within}
+use Rattle.sweep_model.specs.Reply.{countsOf, replyOf, replyWith}
+use Rattle.sweep_model.specs.State.{Limits}
+use Rattle.sweep_model.specs.Sweep.{Verdict, different, equal, undecided}
+use Rattle.sweep_model.specs.declared.Counts.{Counts}
+use Rattle.table.proofs.AcceptedLaws.{accepts}
+use Rattle.table.proofs.FitsLaws.{fits-accepted}
+use Rattle.table.proofs.RefusalLaws.{table-passed}
+use Rattle.table.specs.Refusals.{firstRefusal}
+use Rattle.table.specs.Table.{inputsOf, outputsOf}
+use borrow.Author.Tests.{le-leb, le-ltb, lt-leb}
+use lib.ListN.{length}
+use mathlib.Core.Bool.{false}
+use mathlib.Core.Path.{_∙_, _≡_, refl}
+
+-- Test 13 does not apply to limits within theirs.
+limit-inside : {most n : ℕ} → Within most n → outside? most n ≡ false
+unfolding outside?
+limit-inside {most} {n} h = rw (le-leb 1 n (h .some), le-ltb most n (h .bounded))
+
+limits-inside : {l : Limits} → LimitsWithin l → beyond? l ≡ false
+unfolding beyond?
+limits-inside {l} h = rw (limit-inside (h .size), limit-inside (h .rows), limit-inside (h .steps))
+
+-- Test 14 does not apply to slices that are long enough.
+slices-suffice : {vertices rows : ℕ} {r : Room} {marks : ℕ} → Enough vertices rows r marks → shortSlice? vertices rows r marks ≡ false
+unfolding shortSlice?
+slices-suffice {vertices} {rows} {r} {marks} h =
+    rw (
+      le-ltb (r .pairs) (sliceWords vertices) (h .pairs),
+      le-ltb (r .look) (sliceWords vertices) (h .look),
+      le-ltb (r .diagrams) (sliceWords vertices) (h .diagrams),
+      le-ltb (r .stages) (sliceWords vertices) (h .stages),
+      le-ltb (r .rows) (4 * rows) (h .diagram-rows),
+      le-ltb marks vertices (h .marked),
+    )
+
+module _ (g : Given) where
+  -- Where every bound holds none of 10 to 15 applies.
+  pub passes : Passed g → refusalOf g ≡ 0
+  unfolding refusalOf firstRefusal
+  passes h =
+      table-passed (g .table) (callTests (g .table) (g .output) (g .limits) (g .room) (length (g .marks)) (length (g .setting))) (accepts (g .table) (h .table))
+      ∙ rw (
+        lt-leb (outputsOf (g .table)) (g .output) (h .output),
+        limits-inside (h .limits),
+        slices-suffice (h .room),
+        le-ltb (length (g .setting)) (inputsOf (g .table)) (h .setting),
+      ) refl
+
+  -- Every bound holds of a good call.
+  good-passed : Good g → Passed g
+  good-passed h =
+      record {
+        table = fits-accepted (g .table) (h .table);
+        output = h .output;
+        limits =
+            record {
+              size = record { some = h .some-size; bounded = h .size };
+              rows = record { some = h .some-row; bounded = h .rows };
+              steps = record { some = h .some-step; bounded = h .steps };
+            };
+        room =
+            record {
+              pairs = h .pairs;
+              look = h .look;
+              diagrams = h .diagrams;
+              stages = h .stages;
+              diagram-rows = h .diagram-rows;
+              marked = h .marks;
+            };
+        setting = h .setting;
+      }
+
+  -- Demand 1: a good call is not refused.
+  pub compare-accepts : Good g → refusalOf g ≡ 0
+  compare-accepts h = passes (good-passed h)
+
+  -- Its reply is Equal, Different or Undecided.
+  pub compare-answers : Good g → Answers (compared g .reply)
+  unfolding answered replyOf replyWith
+  compare-answers h = rw (compared-answered g (compare-accepts h)) (said (answerTo g .verdict) (countsOf (answerTo g .left)))
+    where
+      said : (x : Verdict) (c : Counts) → Answers (replyWith x c)
+      said equal c = says-equal
+      said (different s) c = says-different
+      said (undecided x) c = says-undecided
