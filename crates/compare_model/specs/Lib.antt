@@ -1,3 +1,4 @@
 pub mod Claims
 pub mod Compare
 pub mod Passed
+pub mod Said
