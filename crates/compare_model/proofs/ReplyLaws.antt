@@ -4,16 +4,16 @@ use Rattle.compare_model.proofs.GraphLaws.{count-vertices, left-literal
 use Rattle.compare_model.proofs.RefusalLaws.{passed}
 use Rattle.compare_model.proofs.RestLaws.{rest-alike}
 use Rattle.compare_model.proofs.Since.{Since, given-fits, given-rows}
-use Rattle.compare_model.specs.Claims.{AfterRows, AfterSize, AfterSteps, Marked3, RowsKept, SameFunction, StepsKept, problemBy}
+use Rattle.compare_model.specs.Claims.{AfterRows, AfterSize, AfterSteps, MarksKept, RowsKept, SameFunction, StepsKept, problemBy}
 use Rattle.compare_model.specs.Compare.{Given, answerTo, answered, graphWords, problemOf, refusalOf}
+use Rattle.compare_model.specs.Said.{Named, Said}
 use Rattle.sweep_model.proofs.AfterRest.{after-rest}
 use Rattle.sweep_model.proofs.Kept.{pair-steps}
 use Rattle.sweep_model.proofs.Marked.{andAt, ands-at, ands-length}
 use Rattle.sweep_model.proofs.NeverIdle.{never-idle}
-use Rattle.sweep_model.proofs.Replies.{names-one}
-use Rattle.sweep_model.proofs.ReplyLaws.{marked-unmerged, marks-long, rows-counted, rows-passed, size-some, steps-counted, steps-full, steps-passed, three-named, two-large, two-made}
+use Rattle.sweep_model.proofs.ReplyLaws.{constant-mark, mark-known, marked-unmerged, marks-long, one-small, rows-counted, rows-passed, size-some, steps-counted, steps-full, steps-passed, three-named, two-large, two-made}
 use Rattle.sweep_model.proofs.Right.{different-right, equal-right}
-use Rattle.sweep_model.specs.Claims.{And, Names, andSteps, andsFrom, andsOf, by-rows, by-steps, is, isEither, marked, sum}
+use Rattle.sweep_model.specs.Claims.{And, Names, andSteps, andsFrom, andsOf, is, isEither, marked, sum}
 use Rattle.sweep_model.specs.Fit.{vertexCount}
 use Rattle.sweep_model.specs.Normalise.{merged?}
 use Rattle.sweep_model.specs.State.{Problem, functionOf, literalFunction}
@@ -28,7 +28,7 @@ use lib.ListN.{List·getD-append, List·getD-eq-default, drop, getD, length, len
 use lib.Seq.{drop-append-le, getD-drop}
 use mathlib.Core.Bool.{Bool, _||_, cond, false, true}
 use mathlib.Core.List.{List, [], _++_, _∷_, map}
-use mathlib.Core.Logic.{_≢_, inl}
+use mathlib.Core.Logic.{_↔_, _≢_, inl}
 use mathlib.Core.Path.{_∙_, _≡_, ap, ap₂, refl, subst, sym}
 use native.Mathlib.Decide.{decLt}
 use native.Mathlib.Omega.{arith}
@@ -214,40 +214,53 @@ module _ (g : Given) (h : refusalOf g ≡ 0) {loaded : List ℕ} (s : Since load
         made = omega (arith, two-made (given-fits g h) (d .0) (d .2), same-first);
         there = omega (arith, d .1, same-count);
         mark = sym (mark-written (d .0) (omega (arith, d .1, same-count))) ∙ d .2;
-        large = λ v l m. rw (← same-function v) (unfold problemOf in two-large (given-fits g h) v (mark-written v l ∙ m));
         at-rest = rest-alike same-first same-count (sym (given-rows g h)) first-few mark-written (after-rest (given-fits g h) (inl e));
       }
 
-  -- A vertex that the verdict names is the one marked 3.
-  named-replied : (v : ℕ) → Names (answerTo g .verdict) v → Marked3 (problemBy loaded g) (answered g (answerTo g) .marks) v
-  unfolding answerTo
-  named-replied v n =
-      let m : getD (answerTo g .left .marks) v 0 ≡ 3 = three-named (given-fits g h) v .0 n in
-      let l : v < vertexCount there = omega (arith, mark-within marks v (λ z. omega arith), long, count) in
-      record { there = l; mark = sym (mark-written v l) ∙ m; only = λ u k e. names-one (three-named (given-fits g h) u .1 (mark-written u k ∙ e)) n }
-
   -- After Rows the functions marked 1 or 3 have more parts than the row limit.
-  pub rows-short : (v : ℕ) → answerTo g .verdict ≡ undecided (Rows v) → AfterRows (problemBy loaded g) (answered g (answerTo g) .marks) v
+  pub rows-short : (v : ℕ) → answerTo g .verdict ≡ undecided (Rows v) → AfterRows (problemBy loaded g) (answered g (answerTo g) .marks)
   unfolding answerTo problemOf
   rows-short v e =
-      record {
-        named = named-replied v (rw e by-rows);
-        passed =
-            subst (λ (n : ℕ). here .limits .rows < n) (ap together (functions-marked (isEither 1 3))) (rows-passed (given-fits g h) v e);
-      }
+      subst (λ (n : ℕ). here .limits .rows < n) (ap together (functions-marked (isEither 1 3))) (rows-passed (given-fits g h) v e)
 
-  -- After Steps the steps are the limit, and with the vertex marked 3 the ANDs marked take more.
+  -- After Steps the steps are the limit,
+  pub steps-spent : (v : ℕ) → answerTo g .verdict ≡ undecided (Steps v) → answerTo g .left .book .steps ≡ g .limits .steps
+  unfolding answerTo problemOf
+  steps-spent v e = steps-full (given-fits g h) v e
+
+  -- and with the vertex marked 3 the ANDs marked take more.
   pub steps-short : (v : ℕ) → answerTo g .verdict ≡ undecided (Steps v)
-      → AfterSteps (problemBy loaded g) (graphWords loaded) (answered g (answerTo g) .marks) v (answerTo g .left .book .steps)
+      → AfterSteps (problemBy loaded g) (graphWords loaded) (answered g (answerTo g) .marks)
   unfolding answerTo problemOf
   steps-short v e =
-      record {
-        named = named-replied v (rw e by-steps);
-        spent = steps-full (given-fits g h) v e;
-        passed = subst (λ (n : ℕ). here .limits .steps < n) (steps-marked (λ m. isEither 1 2 m || is 3 m) refl) (steps-passed (given-fits g h) v e);
-      }
+      subst (λ (n : ℕ). here .limits .steps < n) (steps-marked (λ m. isEither 1 2 m || is 3 m) refl) (steps-passed (given-fits g h) v e)
 
   -- Idle is never said.
   pub idle-unsaid : answerTo g .verdict ≢ undecided Idle
   unfolding answerTo
   idle-unsaid = never-idle (given-fits g h)
+
+  -- The vertex that the verdict names, and no other, is marked 3.
+  named-marked : (v : ℕ) → Names (answerTo g .verdict) v
+      ↔ ((v < vertexCount (problemBy loaded g)) × (getD (answered g (answerTo g) .marks) v 0 ≡ 3))
+  unfolding answerTo
+  named-marked v = (
+    λ n.
+        let m : getD (answerTo g .left .marks) v 0 ≡ 3 = three-named (given-fits g h) v .0 n in
+        let l : v < vertexCount there = omega (arith, mark-within marks v (λ z. omega arith), long, count) in
+        (l, sym (mark-written v l) ∙ m),
+    λ x. three-named (given-fits g h) v .1 (mark-written v (x .0) ∙ x .1),
+  )
+
+  -- What the marks mean, where the same vertices are named.
+  pub marks-replied : (x : Said) → ((v : ℕ) → Named x v ↔ Names (answerTo g .verdict) v)
+      → MarksKept (problemBy loaded g) (answered g (answerTo g) .marks) x
+  unfolding answerTo
+  marks-replied x same =
+      record {
+        known = λ v l. rw (← mark-written v l) (mark-known (given-fits g h) v);
+        constant = sym (mark-written 0 (omega (arith, count))) ∙ constant-mark (given-fits g h);
+        small = λ v made l m. rw (← same-function v) (unfold problemOf in one-small (given-fits g h) v (omega (arith, same-first)) (mark-written v l ∙ m));
+        large = λ v l m. rw (← same-function v) (unfold problemOf in two-large (given-fits g h) v (mark-written v l ∙ m));
+        named = λ v. (λ n. named-marked v .0 (same v .0 n), λ y. same v .1 (named-marked v .1 y));
+      }

@@ -2,18 +2,16 @@
 -- and what it left.
 use Prim.Native.Nat.{_<_, _≤_, ℕ}
 use Rattle.compare_model.specs.Compare.{Given, Left, graphWords, overFront, problemOf, settingBytes}
+use Rattle.compare_model.specs.Said.{Named, Said}
 use Rattle.sweep_model.specs.Claims.{AtRest, rowsMarked, rowsMarkedWithLast, stepsMarked, stepsMarkedWithLast}
 use Rattle.sweep_model.specs.State.{Problem, functionOf}
-use Rattle.sweep_model.specs.declared.Cause.the-variants.{Idle, Rows, Size, Steps}
-use Rattle.sweep_model.specs.declared.Cause.{Cause}
-use Rattle.sweep_model.specs.declared.Reply.the-variants.{Different, Equal, Refused, Undecided}
-use Rattle.sweep_model.specs.declared.Reply.{Reply}
 use Rattle.table.specs.Table.{graphOf, inputsOf, outputFunction}
 use Rattle.truth.specs.Parts.{size}
 use Rattle.truth.specs.Settings.{FirstDifference}
 use Rattle.truth.specs.Truth.{Setting}
 use lib.ListN.{getD, length}
 use mathlib.Core.List.{List}
+use mathlib.Core.Logic.{_↔_}
 use mathlib.Core.Path.{_≡_}
 
 -- "a vertex's function and operands are those of the table as loaded, and limits are those that the comparison in question was given":
@@ -40,45 +38,43 @@ pub record Differs (loaded : List ℕ) (k : ℕ) (before after : List ℕ) : Typ
   pub first : FirstDifference (inputsOf loaded) (outputFunction (graphOf loaded) 1 k) (outputFunction (graphOf loaded) 2 k) setting
   pub written : after ≡ overFront (settingBytes setting) before
 
--- "After Size, some vertex is marked 2; every vertex marked 2 is larger than the size limit." "After Size and Idle, every input is marked
--- 1, and every AND marked 0 ..", the operands by the rows as left.
+-- "Marks, one byte a vertex": "0 .. (and the constant); 1 swept, or an input given its row; 2 product ended and too large; 3 the vertex named
+-- by Rows or Steps." Of every reply: an AND marked 1 is not larger than the size limit, and "every vertex marked 2 is larger".
+pub record MarksKept (p : Problem) (marks : List ℕ) (said : Said) : Type 0 where
+  pub known : (v : ℕ) → v < length (p .functions) → getD marks v 0 ≤ 3
+  pub constant : getD marks 0 0 ≡ 0
+  pub small : (v : ℕ) → p .first ≤ v → v < length (p .functions) → getD marks v 0 ≡ 1 → size (functionOf p v) ≤ p .limits .size
+  pub large : (v : ℕ) → v < length (p .functions) → getD marks v 0 ≡ 2 → p .limits .size < size (functionOf p v)
+  pub named : (v : ℕ) → Named said v ↔ ((v < length (p .functions)) × (getD marks v 0 ≡ 3))
+
+-- "After Size, some vertex is marked 2": an AND. "After Size and Idle, every input is marked 1, and every AND marked 0 ..", the operands by the
+-- rows as left.
 pub record AfterSize (p : Problem) (marks rows : List ℕ) : Type 0 where
   pub vertex : ℕ
   pub made : p .first ≤ vertex
   pub there : vertex < length (p .functions)
   pub mark : getD marks vertex 0 ≡ 2
-  pub large : (v : ℕ) → v < length (p .functions) → getD marks v 0 ≡ 2 → p .limits .size < size (functionOf p v)
   pub at-rest : AtRest (p .first) (length (p .functions)) marks rows rows
 
--- "3 the vertex named by Rows or Steps": it and no other.
-pub record Marked3 (p : Problem) (marks : List ℕ) (v : ℕ) : Type 0 where
-  pub there : v < length (p .functions)
-  pub mark : getD marks v 0 ≡ 3
-  pub only : (u : ℕ) → u < length (p .functions) → getD marks u 0 ≡ 3 → u ≡ v
-
 -- "After Rows, the functions marked 1 or 3 have more parts than the row limit."
-pub record AfterRows (p : Problem) (marks : List ℕ) (v : ℕ) : Type 0 where
-  pub named : Marked3 p marks v
-  pub passed : p .limits .rows < rowsMarkedWithLast p marks
+abbrev pub AfterRows : Problem → List ℕ → Type 0
+AfterRows p marks = p .limits .rows < rowsMarkedWithLast p marks
 
--- "After Steps, steps = the limit, and the sum with the vertex marked 3 exceeds it.", the operands by the entry rows.
-pub record AfterSteps (p : Problem) (entry marks : List ℕ) (v steps : ℕ) : Type 0 where
-  pub named : Marked3 p marks v
-  pub spent : steps ≡ p .limits .steps
-  pub passed : p .limits .steps < stepsMarkedWithLast p entry marks
+-- "After Steps, .. the sum with the vertex marked 3 exceeds [the limit].", the operands by the entry rows.
+abbrev pub AfterSteps : Problem → List ℕ → List ℕ → Type 0
+AfterSteps p entry marks = p .limits .steps < stepsMarkedWithLast p entry marks
 
--- What is said of each cause, and of the steps with it. Idle is never said.
-abbrev pub CauseSays : List ℕ → Given → Left → Cause → ℕ → Type 0
-CauseSays loaded given left Size steps = AfterSize (problemBy loaded given) (left .marks) (graphWords (left .table)) × StepsKept loaded given left steps
-CauseSays loaded given left (Rows v) steps = AfterRows (problemBy loaded given) (left .marks) v
-CauseSays loaded given left (Steps v) steps = AfterSteps (problemBy loaded given) (graphWords loaded) (left .marks) v steps
-CauseSays loaded given left Idle steps = ⊥
-
--- What is said of each reply. "All carry rows and steps." A comparison that is not refused says no refusal.
-abbrev pub ReplySays : List ℕ → Given → Left → Reply → Type 0
-ReplySays loaded given left (Refused n) = ⊥
-ReplySays loaded given left (Equal c) =
-    SameFunction loaded (given .output) × RowsKept loaded given left (c .rows) × StepsKept loaded given left (c .steps)
-ReplySays loaded given left (Different c) =
-    Differs loaded (given .output) (given .setting) (left .setting) × RowsKept loaded given left (c .rows) × StepsKept loaded given left (c .steps)
-ReplySays loaded given left (Undecided cause c) = RowsKept loaded given left (c .rows) × CauseSays loaded given left cause (c .steps)
+-- What is said of each reply of a comparison that is not refused, beside its marks. "After Steps, steps = the limit". It says no refusal, and
+-- never Idle.
+abbrev pub ReplySays : List ℕ → Given → Left → Said → Type 0
+ReplySays loaded given left (Said.refused n) = ⊥
+ReplySays loaded given left (Said.equal rows steps) =
+    SameFunction loaded (given .output) × RowsKept loaded given left rows × StepsKept loaded given left steps
+ReplySays loaded given left (Said.different rows steps) =
+    Differs loaded (given .output) (given .setting) (left .setting) × RowsKept loaded given left rows × StepsKept loaded given left steps
+ReplySays loaded given left (Said.size rows steps) =
+    AfterSize (problemBy loaded given) (left .marks) (graphWords (left .table)) × RowsKept loaded given left rows × StepsKept loaded given left steps
+ReplySays loaded given left (Said.rows v rows steps) = AfterRows (problemBy loaded given) (left .marks) × RowsKept loaded given left rows
+ReplySays loaded given left (Said.steps v rows steps) =
+    AfterSteps (problemBy loaded given) (graphWords loaded) (left .marks) × RowsKept loaded given left rows × (steps ≡ given .limits .steps)
+ReplySays loaded given left (Said.idle rows steps) = ⊥

@@ -1,12 +1,11 @@
 -- compare: its refusals, and what it gives back and leaves.
 use Prim.Native.Nat.{_*_, _+_, ℕ}
 use Rattle.aig.specs.Lookup.{ownWords}
+use Rattle.compare_model.specs.Said.{Said, saidOf}
 use Rattle.sweep_model.specs.Normalise.{resolve}
 use Rattle.sweep_model.specs.Reply.{replyOf}
 use Rattle.sweep_model.specs.State.{Limits, Problem}
 use Rattle.sweep_model.specs.Sweep.{Answer, Verdict, different, equal, sweep, undecided}
-use Rattle.sweep_model.specs.declared.Reply.the-variants.{Refused}
-use Rattle.sweep_model.specs.declared.Reply.{Reply}
 use Rattle.table.specs.Refusals.{Test, firstRefusal}
 use Rattle.table.specs.Table.{functionsOf, graphOf, inputsOf, madeOf, outputWords, outputsOf, sideOutputs, tableTests, verticesOf}
 use Rattle.truth.specs.Truth.{Setting}
@@ -34,7 +33,7 @@ pub record Given : Type 0 where
 
 -- What it gives back and leaves.
 pub record Left : Type 0 where
-  pub reply : Reply
+  pub reply : Said
   pub table : List ℕ
   pub marks : List ℕ
   pub setting : List ℕ
@@ -126,7 +125,7 @@ settingLeft (undecided c) old = old
 unfoldable pub answered : Given → Answer → Left
 answered g a =
     record {
-      reply = replyOf a;
+      reply = saidOf (replyOf a);
       table = tableLeft (g .table) (a .left .rows);
       marks = overFront (a .left .marks) (g .marks);
       setting = settingLeft (a .verdict) (g .setting);
@@ -134,7 +133,7 @@ answered g a =
 
 -- "refusals leaving all of them unchanged"
 unfoldable pub turnedBack : Given → ℕ → Left
-turnedBack g n = record { reply = Refused n; table = g .table; marks = g .marks; setting = g .setting }
+turnedBack g n = record { reply = Said.refused n; table = g .table; marks = g .marks; setting = g .setting }
 
 -- A comparison: the first refusal that applies, or the sweep's reply.
 unfoldable pub compared : Given → Left

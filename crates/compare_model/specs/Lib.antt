@@ -2,3 +2,4 @@ pub mod Claims
 pub mod Compare
 pub mod Demand1
 pub mod Passed
+pub mod Said

@@ -1,12 +1,12 @@
 -- What the arguments of compare and what it leaves stand for.
 use Prim.Native.Nat.{ℕ}
 use Rattle.compare_model.specs.Compare.{Given, Left, Room}
+use Rattle.compare_model.specs.Said.{Said}
 use Rattle.compare_model.specs.declared.Limits.{Limits as Asked}
 use Rattle.compare_parts.specs.declared.refusal.Lengths.{Lengths}
 use Rattle.sweep_parts.specs.declared.end.Ended.{Ended}
 use Rattle.sweep_model.specs.State.{Limits}
 use Rattle.sweep_model.specs.declared.Counts.{Counts}
-use Rattle.sweep_model.specs.declared.Reply.{Reply}
 use lib.ListN.{length}
 use mathlib.Core.List.{List}
 use mathlib.Core.Path.{_≡_}
@@ -36,9 +36,9 @@ given table output limits pairs look diagrams stages rows marks setting =
       setting = setting;
     }
 
--- What it gives back, and what three of its slices then hold.
-abbrev pub left : Reply → List ℕ → List ℕ → List ℕ → Left
-left reply table marks setting = record { reply = reply; table = table; marks = marks; setting = setting }
+-- What it gives back, in the paper's terms, and what three of its slices then hold.
+abbrev pub left : Said → List ℕ → List ℕ → List ℕ → Left
+left said table marks setting = record { reply = said; table = table; marks = marks; setting = setting }
 
 -- "refusals leaving all of them unchanged": the five slices to work in, before and after.
 pub record Unchanged (pairs pairs-after look look-after diagrams diagrams-after stages stages-after rows rows-after : List ℕ) : Type 0 where

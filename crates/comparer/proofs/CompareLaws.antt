@@ -4,6 +4,7 @@ use Rattle.compare_model.proofs.RefusalLaws.{compared-answered, compared-refuse
 use Rattle.compare_parts.specs.Code.{countsBy, left}
 use Rattle.compare_model.specs.Compare.{Given, answerTo, answered, callTests, compared, refusalOf, settingLeft, tableLeft, turnedBack}
 use Rattle.compare_model.specs.Passed.{Passed}
+use Rattle.compare_model.specs.Said.{saidOf}
 use Rattle.comparer.specs.Work.{Finishes, Ran}
 use Rattle.sweep_parts.specs.Ending.{verdictOf}
 use Rattle.sweep_parts.specs.declared.end.Ended.{Ended}
@@ -27,7 +28,7 @@ module _ (g : Given) where
   refusal-found n e = e
 
   -- A refusal is given back, and nothing is changed.
-  pub turned-back : (n : ℕ) → n ≡ refusalOf g → n ≢ 0 → left (Refused n) (g .table) (g .marks) (g .setting) ≡ compared g
+  pub turned-back : (n : ℕ) → n ≡ refusalOf g → n ≢ 0 → left (saidOf (Refused n)) (g .table) (g .marks) (g .setting) ≡ compared g
   unfolding turnedBack
   turned-back n e h = rw e (sym (compared-refused g (λ z. h (e ∙ z))))
 
@@ -53,12 +54,12 @@ module _ (g : Given) where
     -- What was finished is the comparison.
     pub finished : refusalOf g ≡ 0 → (reply : Reply) (table setting : List ℕ) → table ≡ tableLeft (g .table) (take (2 * verticesOf (g .table)) pairs)
         → setting ≡ settingLeft (verdictOf rows (inputsOf (g .table)) (e .end)) (g .setting)
-        → reply ≡ replyWith (verdictOf rows (inputsOf (g .table)) (e .end)) (countsBy e) → left reply table marks setting ≡ compared g
+        → reply ≡ replyWith (verdictOf rows (inputsOf (g .table)) (e .end)) (countsBy e) → left (saidOf reply) table marks setting ≡ compared g
     unfolding answered replyOf
     finished h reply table setting t s r =
         let table-left : table ≡ tableLeft (g .table) (answerTo g .left .rows) = t ∙ ap (tableLeft (g .table)) (sym (ran .rows-left)) in
         let setting-left : setting ≡ settingLeft (answerTo g .verdict) (g .setting) = s ∙ ap (λ (v : Verdict). settingLeft v (g .setting)) (sym (ran .verdict)) in
         let replied : reply ≡ replyWith (answerTo g .verdict) (countsOf (answerTo g .left)) = r ∙ ap₂ replyWith (sym (ran .verdict)) counts in
-        ap₂ (λ (x : Reply) (ws : List ℕ). left x ws marks setting) replied table-left
-        ∙ ap₂ (left (replyOf (answerTo g)) (tableLeft (g .table) (answerTo g .left .rows))) (sym (ran .marks-left)) setting-left
+        ap₂ (λ (x : Reply) (ws : List ℕ). left (saidOf x) ws marks setting) replied table-left
+        ∙ ap₂ (left (saidOf (replyOf (answerTo g))) (tableLeft (g .table) (answerTo g .left .rows))) (sym (ran .marks-left)) setting-left
         ∙ sym (compared-answered g h)

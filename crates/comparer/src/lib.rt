@@ -7,6 +7,7 @@ use compare_parts::refusal;
 use compare_parts::refusal::Lengths;
 use sweep_model::Reply;
 ghost use Rattle.compare_model.specs.Compare.{compared, refusalOf};
+ghost use Rattle.compare_model.specs.Said.{saidOf};
 ghost use Rattle.compare_parts.specs.Code.{Unchanged, given, left};
 ghost use mathlib.Core.Path.{_≡_};
 
@@ -29,7 +30,7 @@ pub fn compare(
     marks: &mut [u8],
     setting: &mut [u8],
 ) -> Reply
-    ensures { λ r. ⌜ left r (now (table .exit)) (now (marks .exit)) (now (setting .exit)) ≡ compared (given (now (table .entry)) output limits (now (pairs .entry)) (now (look .entry)) (now (diagrams .entry)) (now (stages .entry)) (now (rows .entry)) (now (marks .entry)) (now (setting .entry))) ⌝ }
+    ensures { λ r. ⌜ left (saidOf r) (now (table .exit)) (now (marks .exit)) (now (setting .exit)) ≡ compared (given (now (table .entry)) output limits (now (pairs .entry)) (now (look .entry)) (now (diagrams .entry)) (now (stages .entry)) (now (rows .entry)) (now (marks .entry)) (now (setting .entry))) ⌝ }
     ensures { λ _. ⌜ ((refusalOf (given (now (table .entry)) output limits (now (pairs .entry)) (now (look .entry)) (now (diagrams .entry)) (now (stages .entry)) (now (rows .entry)) (now (marks .entry)) (now (setting .entry))) ≡ 0 → ⊥) → Unchanged (now (pairs .entry)) (now (pairs .exit)) (now (look .entry)) (now (look .exit)) (now (diagrams .entry)) (now (diagrams .exit)) (now (stages .entry)) (now (stages .exit)) (now (rows .entry)) (now (rows .exit))) ⌝ }
 {
     let lengths = Lengths {

@@ -4,34 +4,32 @@ use Rattle.compare_model.proofs.ClaimLaws.{reply-says}
 use Rattle.compare_model.proofs.Since.{Since}
 use Rattle.compare_model.specs.Claims.{ReplySays}
 use Rattle.compare_model.specs.Compare.{Given, compared, refusalOf}
+use Rattle.compare_model.specs.Said.{Said}
 use Rattle.demands.proofs.Demand3.{each-call, loaded-files, since-first}
-use Rattle.demands.proofs.ReplyLaws.{said-kept}
+use Rattle.demands.proofs.ReplyLaws.{reply-kept}
+use Rattle.demands.specs.Claims.{ReplyKept}
 use Rattle.demands.specs.Complete.{Complete, Decided, Suffice, is-different, is-equal}
 use Rattle.loader.specs.Load.{tableOf}
 use Rattle.loader.specs.Loadable.{Loadable}
 use Rattle.netlist.specs.Netlist.{Netlist}
-use Rattle.sweep_model.specs.declared.Cause.the-variants.{Idle, Rows, Size, Steps}
-use Rattle.sweep_model.specs.declared.Reply.the-variants.{Different, Equal, Refused, Undecided}
-use Rattle.sweep_model.specs.declared.Reply.{Reply}
 use mathlib.Core.List.{List}
 use mathlib.Core.Path.{_≡_}
 
 module _ {d e : Netlist} (h : Loadable d e) (old : List ℕ) (g : Given) (s : Since (tableOf d e old) (g .table)) (r : refusalOf g ≡ 0)
     (enough : Suffice d e (g .limits)) where
-  reply-decides : (x : Reply) → ReplySays (tableOf d e old) g (compared g) x → Decided d e (g .output) x
-  reply-decides (Refused n) k = absurd k
-  reply-decides (Equal c) k = is-equal (said-kept h old g s r (Equal c) k .1)
-  reply-decides (Different c) k =
-      let p = said-kept h old g s r (Different c) k .1 in
-      is-different (λ agree. p .differ (agree (p .setting) (p .digits)))
-  reply-decides (Undecided Size c) k = absurd (enough .small (said-kept h old g s r (Undecided Size c) k .2 .0))
-  reply-decides (Undecided (Rows v) c) k = absurd (enough .few-parts (said-kept h old g s r (Undecided (Rows v) c) k .2))
-  reply-decides (Undecided (Steps v) c) k = absurd (enough .few-steps (said-kept h old g s r (Undecided (Steps v) c) k .2 .0))
-  reply-decides (Undecided Idle c) k = absurd (k .1)
+  -- Idle is never said, and the limits rule out each other cause.
+  reply-decides : (x : Said) → ReplySays (tableOf d e old) g (compared g) x → ReplyKept d e (tableOf d e old) g (compared g) x → Decided d e (g .output) x
+  reply-decides (Said.refused n) says k = absurd says
+  reply-decides (Said.equal rows steps) says k = is-equal (k .1)
+  reply-decides (Said.different rows steps) says k = is-different (λ agree. k .1 .differ (agree (k .1 .setting) (k .1 .digits)))
+  reply-decides (Said.size rows steps) says k = absurd (enough .small (k .1))
+  reply-decides (Said.rows v rows steps) says k = absurd (enough .few-parts (k .1))
+  reply-decides (Said.steps v rows steps) says k = absurd (enough .few-steps (k .1))
+  reply-decides (Said.idle rows steps) says k = absurd says
 
   -- A comparison that is not refused decides.
   decides : Decided d e (g .output) (compared g .reply)
-  decides = reply-decides (compared g .reply) (reply-says g r s)
+  decides = reply-decides (compared g .reply) (reply-says g r s) (reply-kept h old g s)
 
 -- Every comparison of the list that is not refused, with limits that suffice, decides.
 pub complete : Complete

@@ -1,7 +1,9 @@
 -- Demand 3, proved. What holds since the table was loaded is kept by every call, and each reply follows from it.
 use Prim.Native.Nat.{ℕ}
+use Rattle.compare_model.proofs.ClaimLaws.{marks-kept, reply-says}
 use Rattle.compare_model.proofs.Since.{Since, since-compared, since-loaded}
-use Rattle.compare_model.specs.Compare.{compared}
+use Rattle.compare_model.specs.Claims.{MarksKept, ReplySays, problemBy}
+use Rattle.compare_model.specs.Compare.{compared, refusalOf}
 use Rattle.demands.proofs.FileLaws.{function-value, table-inputs, table-outputs}
 use Rattle.demands.proofs.ReplyLaws.{reply-kept}
 use Rattle.demands.specs.Claims.{ReplyKept}
@@ -59,6 +61,12 @@ module _ {d e : Netlist} (h : Loadable d e) (old : List ℕ) where
             ∙ function-value d e h old side k t l m;
         replies =
             each-call (λ c. ReplyKept d e (tableOf d e old) (c .given) (c .left) (c .left .reply)) (λ c l here. rw l (reply-kept h old (c .given) here)) since-first ran;
+        marks =
+            each-call (λ c. refusalOf (c .given) ≡ 0 → MarksKept (problemBy (tableOf d e old) (c .given)) (c .left .marks) (c .left .reply))
+            (λ c l here r. rw l (marks-kept (c .given) r here)) since-first ran;
+        conditions =
+            each-call (λ c. refusalOf (c .given) ≡ 0 → ReplySays (tableOf d e old) (c .given) (c .left) (c .left .reply))
+            (λ c l here r. rw l (reply-says (c .given) r here)) since-first ran;
       }
 
 -- Demand 3.

@@ -3,6 +3,7 @@ use Prim.Native.Nat.{ℕ}
 use Rattle.aig.specs.Fold.{foldOf}
 use Rattle.aig.specs.Lookup.{firstVertex, ownWords}
 use Rattle.compare_model.specs.Compare.{answerTo, answered, beyond?, compared, graphWords, outputsLeft, outside?, problemOf, refusalOf, settingBytes, settingLeft, shortSlice?, tableLeft, turnedBack}
+use Rattle.compare_model.specs.Said.{Said}
 use Rattle.demands.proofs.Demand3.{demand3}
 use Rattle.demands.specs.Cards.{comparisonOf, usual}
 use Rattle.demands.specs.Demand3.{Holds, Ran}
@@ -22,8 +23,6 @@ use Rattle.sweep_model.specs.Reply.{replyOf, replyWith}
 use Rattle.sweep_model.specs.State.{bare?, dropped?, gone?, has?, open?, waits?}
 use Rattle.sweep_model.specs.Sweep.{andThen, answerOf, anyDropped?, begin, cause, conclude, giveRow, go, goFor, look, lookAt, meet, multiply, openAt, pickFrom, ready?, scanFrom, smaller, start, sweep, swept, topPart, turnsLeft, turnsOf, twinFrom, visit}
 use Rattle.sweep_model.specs.Sweep.{drop as dropVertex, inputsFrom as giveInputs}
-use Rattle.sweep_model.specs.declared.Cause.the-variants.{Size}
-use Rattle.sweep_model.specs.declared.Reply.the-variants.{Different, Refused, Undecided}
 use Rattle.table.specs.Refusals.{firstRefusal}
 use Rattle.table.specs.Table.{allBelow?, beyondLimits?, downward?, firstFunctions, functionsOf, graphOf, inputsFrom, malformed?, outOfOrder?, outputWords, pairs, rowBelow?, rowsOf, sideOutputs}
 use Rattle.table.specs.Values.{vertexValues}
@@ -61,12 +60,12 @@ table = refl
 
 -- The calls on it: none changes it.
 record Computed : Type 0 where
-  first-reply : compared (comparisonOf 0 sixSteps words) .reply ≡ Different (record { rows = 4; steps = 6 })
+  first-reply : compared (comparisonOf 0 sixSteps words) .reply ≡ Said.different 4 6
   first-setting : compared (comparisonOf 0 sixSteps words) .setting ≡ 48 ∷ 49 ∷ []
   first-table : compared (comparisonOf 0 sixSteps words) .table ≡ words
-  second-reply : compared (comparisonOf 1 usual words) .reply ≡ Refused 12
+  second-reply : compared (comparisonOf 1 usual words) .reply ≡ Said.refused 12
   second-table : compared (comparisonOf 1 usual words) .table ≡ words
-  third-reply : compared (comparisonOf 0 sizeOne words) .reply ≡ Undecided Size (record { rows = 2; steps = 6 })
+  third-reply : compared (comparisonOf 0 sizeOne words) .reply ≡ Said.size 2 6
 
 computed : Computed
 unfolding answerTo answered beyond? compared graphWords outputsLeft outside? problemOf refusalOf settingBytes settingLeft shortSlice? tableLeft turnedBack outputWords pairs rowsOf sideOutputs malformed? beyondLimits? outOfOrder? downward? allBelow? rowBelow? graphOf functionsOf firstFunctions inputsFrom firstRefusal vertexValues conj constant? constantly input invert same? sweep answerOf anyDropped? cause conclude giveRow go goFor meet multiply openAt pickFrom ready? scanFrom smaller swept topPart turnsLeft turnsOf twinFrom visit dropVertex giveInputs start look lookAt andThen begin normalise normaliseFrom normaliseRow foldedRow foundRow resolve takesFrom takeAt wakeAt wake has? gone? bare? dropped? open? waits? replyOf replyWith foldOf firstVertex ownWords _andThen_ addPart addRow countStep plain run among distinct filter alike? cofactors depends? parts size terminal? firstDifference valueAt words

@@ -2,10 +2,10 @@
 -- the files; those on parts and steps and those on loading stand with their definitions.
 use Prim.Native.Nat.{_*_, ℕ}
 use Rattle.compare_model.specs.Compare.{Given, Left, compared}
+use Rattle.compare_model.specs.Said.{Said}
 use Rattle.loader.specs.Cards.{Loading, andFile, orFile, tableLeft}
 use Rattle.loader.specs.Load.{maxTable, maxVertices}
 use Rattle.sweep_model.specs.State.{Limits}
-use Rattle.sweep_model.specs.declared.Reply.the-variants.{Different, Equal}
 use Rattle.table.specs.Table.{inputsOf, verticesOf}
 use Rattle.truth.specs.Cards.{PartsAndSteps}
 use lib.ListN.{replicate}
@@ -44,10 +44,10 @@ firstCompared left right = compared (comparisonOf 0 usual (loadedTable left righ
 -- "`and 2 4` output 6 against `or 3 5` output 7: .. Equal, rows 0, steps 0." "output 2 against 3, one input: Different, setting 0, rows 0."
 -- "no inputs, 0 against 1: Different, empty setting."
 pub record Replying : Type 0 where
-  pub and-or-reply : firstCompared andFile orFile .reply ≡ Equal (record { rows = 0; steps = 0 })
-  pub inverse-reply : firstCompared (outputFile 49 50) (outputFile 49 51) .reply ≡ Different (record { rows = 0; steps = 0 })
+  pub and-or-reply : firstCompared andFile orFile .reply ≡ Said.equal 0 0
+  pub inverse-reply : firstCompared (outputFile 49 50) (outputFile 49 51) .reply ≡ Said.different 0 0
   pub inverse-setting : firstCompared (outputFile 49 50) (outputFile 49 51) .setting ≡ 48 ∷ []
-  pub constants-reply : firstCompared (outputFile 48 48) (outputFile 48 49) .reply ≡ Different (record { rows = 0; steps = 0 })
+  pub constants-reply : firstCompared (outputFile 48 48) (outputFile 48 49) .reply ≡ Said.different 0 0
   pub constants-setting : firstCompared (outputFile 48 48) (outputFile 48 49) .setting ≡ []
 
 -- All of them.

@@ -2,13 +2,10 @@
 use Prim.Native.Nat.{_<_, ℕ}
 use Rattle.compare_model.specs.Claims.{RowsKept, StepsKept, problemBy}
 use Rattle.compare_model.specs.Compare.{Given, Left, graphWords, refusalOf, settingBytes}
+use Rattle.compare_model.specs.Said.{Said}
 use Rattle.netlist.specs.Meaning.{fileAnds, fileValue}
 use Rattle.netlist.specs.Netlist.{Netlist}
 use Rattle.sweep_model.specs.Claims.{AfterIdle, And, AtRest, andFunction, andSteps, sum}
-use Rattle.sweep_model.specs.declared.Cause.the-variants.{Idle, Rows, Size, Steps}
-use Rattle.sweep_model.specs.declared.Cause.{Cause}
-use Rattle.sweep_model.specs.declared.Reply.the-variants.{Different, Equal, Refused, Undecided}
-use Rattle.sweep_model.specs.declared.Reply.{Reply}
 use Rattle.table.specs.Table.{inputsFrom}
 use Rattle.truth.specs.Parts.{size, together}
 use Rattle.truth.specs.Settings.{numberOf}
@@ -60,23 +57,23 @@ pub record IdleAs (loaded : List ℕ) (given : Given) (left : Left) : Type 0 whe
       (graphWords (left .table)) (graphWords loaded)
   pub after-idle : AfterIdle (problemBy loaded given) (left .marks)
 
--- What is said of each cause, and of the steps with it: "unless it said Rows or Steps; after Steps they are the limit".
-abbrev pub CauseKept : Netlist → Netlist → List ℕ → Given → Left → Cause → ℕ → Type 0
-CauseKept d e loaded given left Size steps = TooLarge d e (given .limits .size) × StepsKept loaded given left steps
-CauseKept d e loaded given left (Rows v) steps = TooManyParts d e (given .limits .rows)
-CauseKept d e loaded given left (Steps v) steps = TooManySteps d e (given .limits .steps) × (steps ≡ given .limits .steps)
-CauseKept d e loaded given left Idle steps = IdleAs loaded given left × StepsKept loaded given left steps
-
--- What is said of each reply. A refusal is said exactly where one of 10 to 15 applies.
-abbrev pub ReplyKept : Netlist → Netlist → List ℕ → Given → Left → Reply → Type 0
-ReplyKept d e loaded given left (Refused n) =
+-- What is said of each reply: "unless it said Rows or Steps; after Steps they are the limit". A refusal is said exactly where one of 10 to 15
+-- applies.
+abbrev pub ReplyKept : Netlist → Netlist → List ℕ → Given → Left → Said → Type 0
+ReplyKept d e loaded given left (Said.refused n) =
     (refusalOf given ≡ n) × (n ≢ 0) × (left .table ≡ given .table) × (left .marks ≡ given .marks) × (left .setting ≡ given .setting)
-ReplyKept d e loaded given left (Equal c) =
-    (refusalOf given ≡ 0) × Agree d e (given .output) × RowsKept loaded given left (c .rows) × StepsKept loaded given left (c .steps)
-ReplyKept d e loaded given left (Different c) =
+ReplyKept d e loaded given left (Said.equal rows steps) =
+    (refusalOf given ≡ 0) × Agree d e (given .output) × RowsKept loaded given left rows × StepsKept loaded given left steps
+ReplyKept d e loaded given left (Said.different rows steps) =
     (refusalOf given ≡ 0)
     × Separated d e (given .output) (given .setting) (left .setting)
-    × RowsKept loaded given left (c .rows)
-    × StepsKept loaded given left (c .steps)
-ReplyKept d e loaded given left (Undecided cause c) =
-    (refusalOf given ≡ 0) × RowsKept loaded given left (c .rows) × CauseKept d e loaded given left cause (c .steps)
+    × RowsKept loaded given left rows
+    × StepsKept loaded given left steps
+ReplyKept d e loaded given left (Said.size rows steps) =
+    (refusalOf given ≡ 0) × TooLarge d e (given .limits .size) × RowsKept loaded given left rows × StepsKept loaded given left steps
+ReplyKept d e loaded given left (Said.rows v rows steps) =
+    (refusalOf given ≡ 0) × TooManyParts d e (given .limits .rows) × RowsKept loaded given left rows
+ReplyKept d e loaded given left (Said.steps v rows steps) =
+    (refusalOf given ≡ 0) × TooManySteps d e (given .limits .steps) × RowsKept loaded given left rows × (steps ≡ given .limits .steps)
+ReplyKept d e loaded given left (Said.idle rows steps) =
+    (refusalOf given ≡ 0) × IdleAs loaded given left × RowsKept loaded given left rows × StepsKept loaded given left steps

@@ -1,6 +1,7 @@
 -- What demand 3 comes to where the limits suffice: every comparison that is not refused decides.
 use Prim.Native.Nat.{ℕ}
 use Rattle.compare_model.specs.Compare.{refusalOf}
+use Rattle.compare_model.specs.Said.{Said}
 use Rattle.demands.specs.Claims.{Agree, TooLarge, TooManyParts, TooManySteps}
 use Rattle.demands.specs.Demand3.{Call, Each, Ran}
 use Rattle.loader.specs.Load.{Room, loadResult, tableOf}
@@ -9,9 +10,6 @@ use Rattle.loader.specs.declared.Tally.{Tally}
 use Rattle.netlist.specs.Check.{read, readNetlist}
 use Rattle.netlist.specs.Netlist.{Netlist}
 use Rattle.sweep_model.specs.State.{Limits}
-use Rattle.sweep_model.specs.declared.Counts.{Counts}
-use Rattle.sweep_model.specs.declared.Reply.the-variants.{Different, Equal}
-use Rattle.sweep_model.specs.declared.Reply.{Reply}
 use mathlib.Core.List.{List}
 use mathlib.Core.Path.{_≡_}
 
@@ -22,9 +20,9 @@ pub record Suffice (d e : Netlist) (limits : Limits) : Type 0 where
   pub few-steps : TooManySteps d e (limits .steps) → ⊥
 
 -- The reply is Equal where output k of the two files agrees on every setting, and Different where it does not.
-pub data Decided (d e : Netlist) (k : ℕ) : Reply → Type 0 where
-  is-equal : {c : Counts} → Agree d e k → Decided d e k (Equal c)
-  is-different : {c : Counts} → (Agree d e k → ⊥) → Decided d e k (Different c)
+pub data Decided (d e : Netlist) (k : ℕ) : Said → Type 0 where
+  is-equal : {rows steps : ℕ} → Agree d e k → Decided d e k (Said.equal rows steps)
+  is-different : {rows steps : ℕ} → (Agree d e k → ⊥) → Decided d e k (Said.different rows steps)
 
 abbrev pub Complete : Type 0
 Complete =

@@ -1,6 +1,7 @@
 -- Demand 3. Every list of comparisons, refused ones included, on the table of an accepted load of two files.
 use Prim.Native.Nat.{_<_, ℕ}
-use Rattle.compare_model.specs.Compare.{Given, Left, compared}
+use Rattle.compare_model.specs.Claims.{MarksKept, ReplySays, problemBy}
+use Rattle.compare_model.specs.Compare.{Given, Left, compared, refusalOf}
 use Rattle.demands.specs.Claims.{ReplyKept, sideValue}
 use Rattle.loader.specs.Load.{Room, loadResult, tableOf}
 use Rattle.loader.specs.declared.Loaded.the-variants.{Accepted}
@@ -31,11 +32,14 @@ pub data Each (P : Call → Type 0) : List Call → Type 0 where
   next : {c : Call} {cs : List Call} → P c → Each P cs → Each P (c ∷ cs)
 
 -- "After the list every output of both files still has its file's value on every setting, and each reply kept demand 2 for the files'
--- outputs", and what demand 3 says of its rows, its steps and its cause.
+-- outputs", and what demand 3 says of its rows, its steps and its cause. Of each that was not refused: what its marks mean, and what the paper
+-- says of its reply by them.
 pub record Holds (d e : Netlist) (loaded : List ℕ) (calls : List Call) (last : List ℕ) : Type 0 where
   pub values : (side k : ℕ) (s : Setting) → k < length (d .outputs) → length s ≡ d .inputs
       → outputValue (graphOf last) side k s ≡ sideValue d e side k s
   pub replies : Each (λ c. ReplyKept d e loaded (c .given) (c .left) (c .left .reply)) calls
+  pub marks : Each (λ c. refusalOf (c .given) ≡ 0 → MarksKept (problemBy loaded (c .given)) (c .left .marks) (c .left .reply)) calls
+  pub conditions : Each (λ c. refusalOf (c .given) ≡ 0 → ReplySays loaded (c .given) (c .left) (c .left .reply)) calls
 
 abbrev pub Demand3 : Type 0
 Demand3 =

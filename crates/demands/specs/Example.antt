@@ -1,6 +1,7 @@
 -- Premises of demand 3 that are met: "The and/or pair above", and three comparisons of it, the second of them refused.
 use Prim.Native.Nat.{ℕ}
 use Rattle.compare_model.specs.Compare.{Given, compared}
+use Rattle.compare_model.specs.Said.{Said}
 use Rattle.demands.specs.Cards.{comparisonOf, usual}
 use Rattle.demands.specs.Demand3.{Call, Ran}
 use Rattle.loader.specs.Cards.{andFile, room, withOneGate}
@@ -11,8 +12,6 @@ use Rattle.netlist.specs.Netlist.{Netlist}
 use Rattle.netlist.specs.declared.records.Operation.the-variants.{And, Or}
 use Rattle.netlist.specs.declared.records.Operation.{Operation}
 use Rattle.sweep_model.specs.State.{Limits}
-use Rattle.sweep_model.specs.declared.Cause.the-variants.{Size}
-use Rattle.sweep_model.specs.declared.Reply.the-variants.{Different, Refused, Undecided}
 use lib.ListN.{replicate}
 use mathlib.Core.List.{List, [], _∷_}
 use mathlib.Core.Path.{_≡_}
@@ -58,7 +57,7 @@ pub record Example : Type 0 where
   pub left : readNetlist andFile ≡ read (oneGate And)
   pub right : readNetlist otherFile ≡ read (oneGate Or)
   pub ran : Ran after (firstCall ∷ secondCall ∷ thirdCall ∷ []) (thirdCall .left .table)
-  pub first-reply : firstCall .left .reply ≡ Different (record { rows = 4; steps = 6 })
+  pub first-reply : firstCall .left .reply ≡ Said.different 4 6
   pub first-setting : firstCall .left .setting ≡ 48 ∷ 49 ∷ []
-  pub second-reply : secondCall .left .reply ≡ Refused 12
-  pub third-reply : thirdCall .left .reply ≡ Undecided Size (record { rows = 2; steps = 6 })
+  pub second-reply : secondCall .left .reply ≡ Said.refused 12
+  pub third-reply : thirdCall .left .reply ≡ Said.size 2 6

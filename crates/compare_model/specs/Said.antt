@@ -1,0 +1,31 @@
+-- The answer of a comparison in the paper's terms.
+use Prim.Native.Nat.{ℕ}
+use Rattle.sweep_model.specs.declared.Cause.the-variants.{Idle, Rows, Size, Steps}
+use Rattle.sweep_model.specs.declared.Reply.the-variants.{Different, Equal, Refused, Undecided}
+use Rattle.sweep_model.specs.declared.Reply.{Reply}
+
+-- The number of a refusal, or the reply by its word, with "the vertex at which the row limit was passed" or "at which one more step than the
+-- limit was needed". "All carry rows and steps."
+pub data Said : Type 0 where
+  refused : (number : ℕ) → Said
+  equal : (rows steps : ℕ) → Said
+  different : (rows steps : ℕ) → Said
+  size : (rows steps : ℕ) → Said
+  rows : (vertex rows steps : ℕ) → Said
+  steps : (vertex rows steps : ℕ) → Said
+  idle : (rows steps : ℕ) → Said
+
+-- The paper's number or values for each case of the reply.
+abbrev pub saidOf : Reply → Said
+saidOf (Refused n) = Said.refused n
+saidOf (Equal c) = Said.equal (c .rows) (c .steps)
+saidOf (Different c) = Said.different (c .rows) (c .steps)
+saidOf (Undecided Size c) = Said.size (c .rows) (c .steps)
+saidOf (Undecided (Rows v) c) = Said.rows v (c .rows) (c .steps)
+saidOf (Undecided (Steps v) c) = Said.steps v (c .rows) (c .steps)
+saidOf (Undecided Idle c) = Said.idle (c .rows) (c .steps)
+
+-- "the vertex named by Rows or Steps"
+pub data Named : Said → ℕ → Type 0 where
+  by-rows : {v rows steps : ℕ} → Named (Said.rows v rows steps) v
+  by-steps : {v rows steps : ℕ} → Named (Said.steps v rows steps) v
