@@ -12,8 +12,7 @@ use Rattle.sweep_model.specs.Sweep.{Verdict, different, equal, undecided}
 use Rattle.sweep_model.specs.declared.Cause.the-variants.{Idle, Rows, Size, Steps}
 use Rattle.truth.specs.Truth.{Setting}
 use mathlib.Core.List.{List}
-use mathlib.Core.Logic.{_↔_}
-use mathlib.Core.Path.{_≡_, ap, refl, subst}
+use mathlib.Core.Path.{_≡_, refl, subst}
 
 module _ (g : Given) (h : refusalOf g ≡ 0) {loaded : List ℕ} (s : Since loaded (g .table)) where
   -- What the comparison leaves.
@@ -28,19 +27,15 @@ module _ (g : Given) (h : refusalOf g ≡ 0) {loaded : List ℕ} (s : Since load
   summed : {x : Verdict} → answerTo g .verdict ≡ x → ((v : ℕ) → Names x v → ⊥) → StepsKept loaded g left (answerTo g .left .book .steps)
   summed k none = steps-replied g h s (λ v n. none v (subst (λ (y : Verdict). Names y v) k n))
 
-  -- Equal is said only where the output has one function on both sides.
+  -- Equal is said only where the two sides agree on every setting.
   equal-says : answerTo g .verdict ≡ equal → ReplySays loaded g left (saidAt equal)
   unfolding answered replyOf replyWith
   equal-says k = (equal-replied g h s k, rows-replied g h s, summed k (λ v n. elim n [ ]))
 
-  -- Different is said only with the first setting on which the two sides differ, written to the front of the setting slice.
+  -- Different is said only with the first setting on which the two sides disagree, written to the front of the setting slice.
   different-says : (t : Setting) → answerTo g .verdict ≡ different t → ReplySays loaded g left (saidAt (different t))
   unfolding answered replyOf replyWith settingLeft
-  different-says t k = (
-    record { setting = t; first = different-replied g h s t k; written = ap (λ (x : Verdict). settingLeft x (g .setting)) k },
-    rows-replied g h s,
-    summed k (λ v n. elim n [ ]),
-  )
+  different-says t k = (rw k (different-replied g h s t k), rows-replied g h s, summed k (λ v n. elim n [ ]))
 
   -- Size is said only where some AND is marked 2 and the sweep is at rest.
   size-says : answerTo g .verdict ≡ undecided Size → ReplySays loaded g left (saidAt (undecided Size))

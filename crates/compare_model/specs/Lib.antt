@@ -1,4 +1,5 @@
 pub mod Claims
 pub mod Compare
+pub mod Demand2
 pub mod Passed
 pub mod Said
