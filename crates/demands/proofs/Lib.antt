@@ -2,5 +2,6 @@ pub mod FileLaws
 pub mod ReplyLaws
 pub mod Demand3
 pub mod Complete
+pub mod FromFiles
 pub mod Cards
 pub mod Example

@@ -1,5 +1,6 @@
 pub mod Claims
 pub mod Demand3
 pub mod Complete
+pub mod FromFiles
 pub mod Cards
 pub mod Example
