@@ -3,17 +3,15 @@ use Prim.Native.Nat.{ℕ}
 use Rattle.compare_model.proofs.RefusalLaws.{compared-answered}
 use Rattle.compare_model.proofs.ReplyLaws.{different-replied, equal-replied, idle-unsaid, marks-replied, rows-replied, rows-short, size-replied, steps-replied, steps-short, steps-spent}
 use Rattle.compare_model.proofs.Since.{Since}
-use Rattle.compare_model.specs.Claims.{MarksKept, ReplySays, StepsKept, problemBy}
-use Rattle.compare_model.specs.Compare.{Given, Left, answerTo, answered, compared, refusalOf, settingLeft}
+use Rattle.compare_model.specs.Claims.{Differs, MarksKept, ReplySays, StepsKept, problemBy}
+use Rattle.compare_model.specs.Compare.{Given, Left, answerTo, answered, compared, refusalOf, saidBy, settingLeft}
 use Rattle.compare_model.specs.Said.{Named, Said}
 use Rattle.sweep_model.specs.Claims.{Names}
-use Rattle.sweep_model.specs.Reply.{replyOf, replyWith}
 use Rattle.sweep_model.specs.Sweep.{Verdict, different, equal, undecided}
 use Rattle.sweep_model.specs.declared.Cause.the-variants.{Idle, Rows, Size, Steps}
 use Rattle.truth.specs.Truth.{Setting}
 use mathlib.Core.List.{List}
-use mathlib.Core.Logic.{_↔_}
-use mathlib.Core.Path.{_≡_, ap, refl, subst}
+use mathlib.Core.Path.{_≡_, refl, subst, sym}
 
 module _ (g : Given) (h : refusalOf g ≡ 0) {loaded : List ℕ} (s : Since loaded (g .table)) where
   -- What the comparison leaves.
@@ -28,28 +26,28 @@ module _ (g : Given) (h : refusalOf g ≡ 0) {loaded : List ℕ} (s : Since load
   summed : {x : Verdict} → answerTo g .verdict ≡ x → ((v : ℕ) → Names x v → ⊥) → StepsKept loaded g left (answerTo g .left .book .steps)
   summed k none = steps-replied g h s (λ v n. none v (subst (λ (y : Verdict). Names y v) k n))
 
-  -- Equal is said only where the output has one function on both sides.
+  -- Equal is said only where the two sides agree on every setting.
   equal-says : answerTo g .verdict ≡ equal → ReplySays loaded g left (saidAt equal)
-  unfolding answered replyOf replyWith
+  unfolding answered saidBy
   equal-says k = (equal-replied g h s k, rows-replied g h s, summed k (λ v n. elim n [ ]))
 
-  -- Different is said only with the first setting on which the two sides differ, written to the front of the setting slice.
+  -- Different is said only with the first setting on which the two sides disagree, written to the front of the setting slice.
   different-says : (t : Setting) → answerTo g .verdict ≡ different t → ReplySays loaded g left (saidAt (different t))
-  unfolding answered replyOf replyWith settingLeft
+  unfolding answered saidBy settingLeft
   different-says t k = (
-    record { setting = t; first = different-replied g h s t k; written = ap (λ (x : Verdict). settingLeft x (g .setting)) k },
+    subst (λ (x : Verdict). Differs loaded (g .output) (g .setting) (settingLeft x (g .setting))) (sym k) (different-replied g h s t k),
     rows-replied g h s,
     summed k (λ v n. elim n [ ]),
   )
 
   -- Size is said only where some AND is marked 2 and the sweep is at rest.
   size-says : answerTo g .verdict ≡ undecided Size → ReplySays loaded g left (saidAt (undecided Size))
-  unfolding answered replyOf replyWith
+  unfolding answered saidBy
   size-says k = (size-replied g h s k, rows-replied g h s, summed k (λ v n. elim n [ ]))
 
   -- A mark 3 stands at the vertex that is named, and the other marks mean what they say.
   marks-say : (x : Verdict) → answerTo g .verdict ≡ x → MarksKept (problemBy loaded g) (left .marks) (saidAt x)
-  unfolding answered replyOf replyWith
+  unfolding answered saidBy
   marks-say x k = marks-replied g h s (saidAt x) (λ v. rw k (named-verdict x v, verdict-named))
     where
       verdict-named : {x : Verdict} {v : ℕ} → Names x v → Named (saidAt x) v
@@ -66,12 +64,12 @@ module _ (g : Given) (h : refusalOf g ≡ 0) {loaded : List ℕ} (s : Since load
 
   -- Rows is said only where the functions marked 1 or 3 have more parts than the row limit.
   rows-says : (v : ℕ) → answerTo g .verdict ≡ undecided (Rows v) → ReplySays loaded g left (saidAt (undecided (Rows v)))
-  unfolding answered replyOf replyWith
+  unfolding answered saidBy
   rows-says v k = (rows-short g h s v k, rows-replied g h s)
 
   -- Steps is said only where the steps are the limit and with the vertex marked 3 there are more.
   steps-says : (v : ℕ) → answerTo g .verdict ≡ undecided (Steps v) → ReplySays loaded g left (saidAt (undecided (Steps v)))
-  unfolding answered replyOf replyWith
+  unfolding answered saidBy
   steps-says v k = (steps-short g h s v k, rows-replied g h s, steps-spent g h s v k)
 
   -- Whatever the verdict, what is said of it holds.

@@ -6,3 +6,4 @@ pub mod Since
 pub mod RestLaws
 pub mod ReplyLaws
 pub mod ClaimLaws
+pub mod Demand2

@@ -3,9 +3,9 @@ use Prim.Native.Nat.{_+_, _-_, _<_, _≤_, suc, ℕ}
 use Rattle.compare_model.proofs.GraphLaws.{count-vertices, left-literal, right-literal}
 use Rattle.compare_model.proofs.RefusalLaws.{passed}
 use Rattle.compare_model.proofs.RestLaws.{rest-alike}
-use Rattle.compare_model.proofs.Since.{Since, given-fits, given-rows}
-use Rattle.compare_model.specs.Claims.{AfterRows, AfterSize, AfterSteps, MarksKept, RowsKept, SameFunction, StepsKept, problemBy}
-use Rattle.compare_model.specs.Compare.{Given, answerTo, answered, graphWords, problemOf, refusalOf}
+use Rattle.compare_model.proofs.Since.{Since, given-fits, given-rows, since-value}
+use Rattle.compare_model.specs.Claims.{AfterRows, AfterSize, AfterSteps, Agrees, Differs, MarksKept, RowsKept, StepsKept, problemBy}
+use Rattle.compare_model.specs.Compare.{Given, answerTo, answered, graphWords, overFront, problemOf, refusalOf, settingBytes}
 use Rattle.compare_model.specs.Said.{Named, Said}
 use Rattle.sweep_model.proofs.AfterRest.{after-rest}
 use Rattle.sweep_model.proofs.Kept.{pair-steps}
@@ -19,11 +19,11 @@ use Rattle.sweep_model.specs.Normalise.{merged?}
 use Rattle.sweep_model.specs.State.{Problem, functionOf, literalFunction}
 use Rattle.sweep_model.specs.Sweep.{different, equal, undecided}
 use Rattle.sweep_model.specs.declared.Cause.the-variants.{Idle, Rows, Size, Steps}
-use Rattle.table.specs.Table.{graphOf, inputsOf, outputFunction, verticesOf}
+use Rattle.table.proofs.FunctionLaws.{value-output}
+use Rattle.table.specs.Table.{graphOf, inputsOf, outputFunction, outputValue, verticesOf}
 use Rattle.truth.proofs.Booleans.{clash}
 use Rattle.truth.specs.Parts.{together}
-use Rattle.truth.specs.Settings.{FirstDifference}
-use Rattle.truth.specs.Truth.{Setting}
+use Rattle.truth.specs.Truth.{Setting, Truth, valueAt}
 use lib.ListN.{List·getD-append, List·getD-eq-default, drop, getD, length, length-drop}
 use lib.Seq.{drop-append-le, getD-drop}
 use mathlib.Core.Bool.{Bool, _||_, cond, false, true}
@@ -183,25 +183,39 @@ module _ (g : Given) (h : refusalOf g ≡ 0) {loaded : List ℕ} (s : Since load
   unfolding answerTo
   steps-replied unnamed = steps-counted (given-fits g h) unnamed ∙ steps-marked (isEither 1 2) refl
 
-  same-output : (side : ℕ) → outputFunction (graphOf (g .table)) side (g .output) ≡ outputFunction (graphOf loaded) side (g .output)
-  same-output side = s .output side (g .output) (omega (arith, passed g h .output, s .outputs))
+  -- On a setting the two literals' functions have the output's values on the two sides of the table as loaded.
+  same-value : (side : ℕ) (t : Setting) → length t ≡ inputsOf loaded
+      → valueAt (outputFunction (graphOf (g .table)) side (g .output)) t ≡ outputValue (graphOf loaded) side (g .output) t
+  unfolding graphOf
+  same-value side t l =
+      value-output (graphOf (g .table)) t (omega (arith, s .inputs)) side (g .output)
+      ∙ since-value s side (g .output) t (omega (arith, passed g h .output, s .outputs)) l
 
-  same-left : literalFunction here (here .left) ≡ outputFunction (graphOf loaded) 1 (g .output)
-  same-left = left-literal (g .table) (g .output) (g .limits) ∙ same-output 1
+  left-value : (t : Setting) → length t ≡ inputsOf loaded → valueAt (literalFunction here (here .left)) t ≡ outputValue (graphOf loaded) 1 (g .output) t
+  left-value t l = ap (λ (f : Truth). valueAt f t) (left-literal (g .table) (g .output) (g .limits)) ∙ same-value 1 t l
 
-  same-right : literalFunction here (here .right) ≡ outputFunction (graphOf loaded) 2 (g .output)
-  same-right = right-literal (g .table) (g .output) (g .limits) ∙ same-output 2
+  right-value : (t : Setting) → length t ≡ inputsOf loaded → valueAt (literalFunction here (here .right)) t ≡ outputValue (graphOf loaded) 2 (g .output) t
+  right-value t l = ap (λ (f : Truth). valueAt f t) (right-literal (g .table) (g .output) (g .limits)) ∙ same-value 2 t l
 
-  -- After equal the output has one function on both sides.
-  pub equal-replied : answerTo g .verdict ≡ equal → SameFunction loaded (g .output)
+  -- After equal the output has one value on both sides, on every setting.
+  pub equal-replied : answerTo g .verdict ≡ equal → Agrees loaded (g .output)
   unfolding answerTo
-  equal-replied e = sym same-left ∙ equal-right (given-fits g h) e ∙ same-right
+  equal-replied e t l = sym (left-value t l) ∙ ap (λ (f : Truth). valueAt f t) (equal-right (given-fits g h) e) ∙ right-value t l
 
   -- After different the setting is the first on which the two differ.
   pub different-replied : (t : Setting) → answerTo g .verdict ≡ different t
-      → FirstDifference (inputsOf loaded) (outputFunction (graphOf loaded) 1 (g .output)) (outputFunction (graphOf loaded) 2 (g .output)) t
-  unfolding answerTo
-  different-replied t e = rw (← same-left, ← same-right, ← s .inputs) (unfold problemOf in different-right (given-fits g h) t e)
+      → Differs loaded (g .output) (g .setting) (overFront (settingBytes t) (g .setting))
+  unfolding answerTo problemOf
+  different-replied t e =
+      let f = different-right (given-fits g h) t e in
+      let l : length t ≡ inputsOf loaded = f .digits ∙ s .inputs in
+      record {
+        setting = t;
+        digits = l;
+        written = refl;
+        differ = λ k. f .differ (left-value t l ∙ k ∙ sym (right-value t l));
+        first = λ u m n. sym (left-value u m) ∙ f .first u (m ∙ sym (s .inputs)) n ∙ right-value u m;
+      }
 
   -- After Size some AND is marked 2, each marked 2 is larger than the size limit, and the others are at rest.
   pub size-replied : answerTo g .verdict ≡ undecided Size

@@ -10,15 +10,18 @@ use Rattle.compare_model.proofs.RefusalLaws.{compared-answered, compare
 use Rattle.compare_model.specs.Claims.{problemBy}
 use Rattle.compare_model.specs.Compare.{Given, answerTo, answered, compared, graphWords, problemOf, refusalOf, turnedBack}
 use Rattle.sweep_model.proofs.Kept.{operands-kept, sweep-steady}
+use Rattle.sweep_model.specs.Steady.{Steady}
 use Rattle.sweep_model.specs.Fit.{Fit, vertexCount}
 use Rattle.sweep_model.specs.Normalise.{merged?}
-use Rattle.sweep_model.specs.Steady.{Steady}
+use Rattle.table.proofs.FunctionLaws.{value-output}
 use Rattle.table.specs.Accepted.{Accepted}
-use Rattle.table.specs.Table.{functionsOf, graphOf, inputsOf, madeOf, outputFunction, outputsOf, verticesOf}
+use Rattle.table.specs.Table.{functionsOf, graphOf, inputsOf, madeOf, outputFunction, outputValue, outputsOf, verticesOf}
 use Rattle.truth.proofs.Booleans.{clash, not-true}
+use Rattle.truth.specs.Truth.{Setting, Truth, valueAt}
+use lib.ListN.{length}
 use mathlib.Core.Bool.{false}
 use mathlib.Core.List.{List}
-use mathlib.Core.Path.{_∙_, _≡_, refl}
+use mathlib.Core.Path.{_∙_, _≡_, ap, refl, sym}
 use native.Mathlib.Decide.{ℕ-discrete}
 use native.Mathlib.Omega.{arith}
 
@@ -50,6 +53,15 @@ since-loaded h =
       output = λ side k l. refl;
       operands = λ v l m e. straight refl refl;
     }
+
+-- So every output keeps its value on every setting.
+pub since-value : {loaded table : List ℕ} → Since loaded table → (side k : ℕ) (t : Setting) → k < outputsOf loaded → length t ≡ inputsOf loaded
+    → outputValue (graphOf table) side k t ≡ outputValue (graphOf loaded) side k t
+unfolding graphOf
+since-value {loaded} {table} s side k t l m =
+    sym (value-output (graphOf table) t (omega (arith, s .inputs)) side k)
+    ∙ ap (λ (f : Truth). valueAt f t) (s .output side k l)
+    ∙ value-output (graphOf loaded) t m side k
 
 -- A comparison that is not refused.
 module _ (g : Given) (h : refusalOf g ≡ 0) where

@@ -5,13 +5,13 @@ use Rattle.compare_model.specs.Compare.{Given, Left, graphWords, overFro
 use Rattle.compare_model.specs.Said.{Named, Said}
 use Rattle.sweep_model.specs.Claims.{AtRest, rowsMarked, rowsMarkedWithLast, stepsMarked, stepsMarkedWithLast}
 use Rattle.sweep_model.specs.State.{Problem, functionOf}
-use Rattle.table.specs.Table.{graphOf, inputsOf, outputFunction}
+use Rattle.table.specs.Table.{graphOf, inputsOf, outputValue}
 use Rattle.truth.specs.Parts.{size}
-use Rattle.truth.specs.Settings.{FirstDifference}
+use Rattle.truth.specs.Settings.{numberOf}
 use Rattle.truth.specs.Truth.{Setting}
 use lib.ListN.{getD, length}
 use mathlib.Core.List.{List}
-use mathlib.Core.Logic.{_↔_}
+use mathlib.Core.Logic.{_↔_, _≢_}
 use mathlib.Core.Path.{_≡_}
 
 -- "a vertex's function and operands are those of the table as loaded, and limits are those that the comparison in question was given":
@@ -27,16 +27,19 @@ RowsKept loaded given left rows = rows ≡ rowsMarked (problemBy loaded given) (
 abbrev pub StepsKept : List ℕ → Given → Left → ℕ → Type 0
 StepsKept loaded given left steps = steps ≡ stepsMarked (problemBy loaded given) (graphWords loaded) (left .marks)
 
--- "Equal is said only where two outputs agree on every setting": the output has one function on both sides.
-abbrev pub SameFunction : List ℕ → ℕ → Type 0
-SameFunction loaded k = outputFunction (graphOf loaded) 1 k ≡ outputFunction (graphOf loaded) 2 k
+-- "Equal is said only where two outputs agree on every setting": output k of a table's two sides.
+abbrev pub Agrees : List ℕ → ℕ → Type 0
+Agrees table k = (s : Setting) → length s ≡ inputsOf table → outputValue (graphOf table) 1 k s ≡ outputValue (graphOf table) 2 k s
 
 -- "Different only with the first setting, in counting order, on which they disagree.": "one byte an input .. to the front of the lent
 -- setting slice and no others".
-pub record Differs (loaded : List ℕ) (k : ℕ) (before after : List ℕ) : Type 0 where
+pub record Differs (table : List ℕ) (k : ℕ) (before after : List ℕ) : Type 0 where
   pub setting : Setting
-  pub first : FirstDifference (inputsOf loaded) (outputFunction (graphOf loaded) 1 k) (outputFunction (graphOf loaded) 2 k) setting
+  pub digits : length setting ≡ inputsOf table
   pub written : after ≡ overFront (settingBytes setting) before
+  pub differ : outputValue (graphOf table) 1 k setting ≢ outputValue (graphOf table) 2 k setting
+  pub first : (s : Setting) → length s ≡ inputsOf table → numberOf s < numberOf setting
+      → outputValue (graphOf table) 1 k s ≡ outputValue (graphOf table) 2 k s
 
 -- "Marks, one byte a vertex": "0 .. (and the constant); 1 swept, or an input given its row; 2 product ended and too large; 3 the vertex named
 -- by Rows or Steps." Of every reply: an AND marked 1 is not larger than the size limit, and "every vertex marked 2 is larger".
@@ -69,7 +72,7 @@ AfterSteps p entry marks = p .limits .steps < stepsMarkedWithLast p entry marks
 abbrev pub ReplySays : List ℕ → Given → Left → Said → Type 0
 ReplySays loaded given left (Said.refused n) = ⊥
 ReplySays loaded given left (Said.equal rows steps) =
-    SameFunction loaded (given .output) × RowsKept loaded given left rows × StepsKept loaded given left steps
+    Agrees loaded (given .output) × RowsKept loaded given left rows × StepsKept loaded given left steps
 ReplySays loaded given left (Said.different rows steps) =
     Differs loaded (given .output) (given .setting) (left .setting) × RowsKept loaded given left rows × StepsKept loaded given left steps
 ReplySays loaded given left (Said.size rows steps) =

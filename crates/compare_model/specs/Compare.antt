@@ -1,9 +1,8 @@
 -- compare: its refusals, and what it gives back and leaves.
 use Prim.Native.Nat.{_*_, _+_, ℕ}
 use Rattle.aig.specs.Lookup.{ownWords}
-use Rattle.compare_model.specs.Said.{Said, saidOf}
+use Rattle.compare_model.specs.Said.{Said, undecidedBy}
 use Rattle.sweep_model.specs.Normalise.{resolve}
-use Rattle.sweep_model.specs.Reply.{replyOf}
 use Rattle.sweep_model.specs.State.{Limits, Problem}
 use Rattle.sweep_model.specs.Sweep.{Answer, Verdict, different, equal, sweep, undecided}
 use Rattle.table.specs.Refusals.{Test, firstRefusal}
@@ -121,11 +120,17 @@ settingLeft equal old = old
 settingLeft (different s) old = overFront (settingBytes s) old
 settingLeft (undecided c) old = old
 
+-- "All carry rows and steps.": what is said at a verdict, with the rows in use and the steps taken.
+unfoldable pub saidBy : Verdict → ℕ → ℕ → Said
+saidBy equal rows steps = Said.equal rows steps
+saidBy (different s) rows steps = Said.different rows steps
+saidBy (undecided x) rows steps = undecidedBy x rows steps
+
 -- What a comparison that is not refused leaves: "Marks, one byte a vertex, all written at a reply, later bytes unchanged".
 unfoldable pub answered : Given → Answer → Left
 answered g a =
     record {
-      reply = saidOf (replyOf a);
+      reply = saidBy (a .verdict) (length (a .left .book .store)) (a .left .book .steps);
       table = tableLeft (g .table) (a .left .rows);
       marks = overFront (a .left .marks) (g .marks);
       setting = settingLeft (a .verdict) (g .setting);

@@ -1,6 +1,7 @@
 -- The answer of a comparison in the paper's terms.
 use Prim.Native.Nat.{ℕ}
 use Rattle.sweep_model.specs.declared.Cause.the-variants.{Idle, Rows, Size, Steps}
+use Rattle.sweep_model.specs.declared.Cause.{Cause}
 use Rattle.sweep_model.specs.declared.Reply.the-variants.{Different, Equal, Refused, Undecided}
 use Rattle.sweep_model.specs.declared.Reply.{Reply}
 
@@ -15,15 +16,19 @@ pub data Said : Type 0 where
   steps : (vertex rows steps : ℕ) → Said
   idle : (rows steps : ℕ) → Said
 
+-- "Undecided by Size ..; by Rows with the vertex ..; by Steps with the vertex ..; Idle .., also an Undecided."
+abbrev pub undecidedBy : Cause → ℕ → ℕ → Said
+undecidedBy Size r s = Said.size r s
+undecidedBy (Rows v) r s = Said.rows v r s
+undecidedBy (Steps v) r s = Said.steps v r s
+undecidedBy Idle r s = Said.idle r s
+
 -- The paper's number or values for each case of the reply.
 abbrev pub saidOf : Reply → Said
 saidOf (Refused n) = Said.refused n
 saidOf (Equal c) = Said.equal (c .rows) (c .steps)
 saidOf (Different c) = Said.different (c .rows) (c .steps)
-saidOf (Undecided Size c) = Said.size (c .rows) (c .steps)
-saidOf (Undecided (Rows v) c) = Said.rows v (c .rows) (c .steps)
-saidOf (Undecided (Steps v) c) = Said.steps v (c .rows) (c .steps)
-saidOf (Undecided Idle c) = Said.idle (c .rows) (c .steps)
+saidOf (Undecided x c) = undecidedBy x (c .rows) (c .steps)
 
 -- "the vertex named by Rows or Steps"
 pub data Named : Said → ℕ → Type 0 where

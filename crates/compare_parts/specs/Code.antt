@@ -4,9 +4,7 @@ use Rattle.compare_model.specs.Compare.{Given, Left, Room}
 use Rattle.compare_model.specs.Said.{Said}
 use Rattle.compare_model.specs.declared.Limits.{Limits as Asked}
 use Rattle.compare_parts.specs.declared.refusal.Lengths.{Lengths}
-use Rattle.sweep_parts.specs.declared.end.Ended.{Ended}
 use Rattle.sweep_model.specs.State.{Limits}
-use Rattle.sweep_model.specs.declared.Counts.{Counts}
 use lib.ListN.{length}
 use mathlib.Core.List.{List}
 use mathlib.Core.Path.{_≡_}
@@ -47,7 +45,3 @@ pub record Unchanged (pairs pairs-after look look-after diagrams diagrams-after 
   pub diagrams-kept : diagrams-after ≡ diagrams
   pub stages-kept : stages-after ≡ stages
   pub rows-kept : rows-after ≡ rows
-
--- The rows and steps that a reply carries.
-abbrev pub countsBy : Ended → Counts
-countsBy e = record { rows = e .used; steps = e .steps }

@@ -7,10 +7,9 @@ use sweep_parts::end::End;
 use sweep_parts::end::Ended;
 ghost use Prim.Native.Nat.{_≤_, ℕ};
 ghost use Rattle.bdd.specs.Store.{Store};
-ghost use Rattle.compare_model.specs.Compare.{maxRows, maxSteps, settingLeft};
-ghost use Rattle.compare_parts.specs.Code.{countsBy};
+ghost use Rattle.compare_model.specs.Compare.{maxRows, maxSteps, saidBy, settingLeft};
+ghost use Rattle.compare_model.specs.Said.{saidOf};
 ghost use Rattle.sweep_parts.specs.Ending.{Refers, verdictOf};
-ghost use Rattle.sweep_model.specs.Reply.{replyWith};
 ghost use lib.ListN.{length};
 ghost use mathlib.Core.List.{List};
 ghost use mathlib.Core.Path.{_≡_};
@@ -18,7 +17,7 @@ ghost use mathlib.Core.Path.{_≡_};
 // The reply, with the rows used and the steps taken.
 pub fn reply_of(ended: Ended) -> Reply
     requires { ⌜ (ended .used ≤ maxRows) × (ended .steps ≤ maxSteps) ⌝ }
-    ensures { λ r. ⌜ ((rows : List ℕ) (inputs : ℕ) → r ≡ replyWith (verdictOf rows inputs (ended .end)) (countsBy ended)) ⌝ }
+    ensures { λ r. ⌜ ((rows : List ℕ) (inputs : ℕ) → saidOf r ≡ saidBy (verdictOf rows inputs (ended .end)) (ended .used) (ended .steps)) ⌝ }
 {
     let counts = Counts {
         rows: ended.used as u32,

@@ -1,14 +1,13 @@
 -- What compare gives back and leaves, refused or not, is the comparison.
 use Prim.Native.Nat.{_*_, ℕ}
 use Rattle.compare_model.proofs.RefusalLaws.{compared-answered, compared-refused}
-use Rattle.compare_parts.specs.Code.{countsBy, left}
-use Rattle.compare_model.specs.Compare.{Given, answerTo, answered, callTests, compared, refusalOf, settingLeft, tableLeft, turnedBack}
+use Rattle.compare_parts.specs.Code.{left}
+use Rattle.compare_model.specs.Compare.{Given, answerTo, answered, callTests, compared, refusalOf, saidBy, settingLeft, tableLeft, turnedBack}
 use Rattle.compare_model.specs.Passed.{Passed}
-use Rattle.compare_model.specs.Said.{saidOf}
+use Rattle.compare_model.specs.Said.{Said, saidOf}
 use Rattle.comparer.specs.Work.{Finishes, Ran}
 use Rattle.sweep_parts.specs.Ending.{verdictOf}
 use Rattle.sweep_parts.specs.declared.end.Ended.{Ended}
-use Rattle.sweep_model.specs.Reply.{countsOf, replyOf, replyWith}
 use Rattle.sweep_model.specs.Sweep.{Verdict}
 use Rattle.sweep_model.specs.declared.Reply.the-variants.{Refused}
 use Rattle.sweep_model.specs.declared.Reply.{Reply}
@@ -47,19 +46,16 @@ module _ (g : Given) where
           counted = ran .counted;
         }
 
-    -- The rows and steps are the model's.
-    counts : countsBy e ≡ countsOf (answerTo g .left)
-    counts = ap₂ (λ (n m : ℕ). record { rows = n; steps = m }) (sym (ran .rows-used)) (sym (ran .steps-taken))
-
     -- What was finished is the comparison.
     pub finished : refusalOf g ≡ 0 → (reply : Reply) (table setting : List ℕ) → table ≡ tableLeft (g .table) (take (2 * verticesOf (g .table)) pairs)
         → setting ≡ settingLeft (verdictOf rows (inputsOf (g .table)) (e .end)) (g .setting)
-        → reply ≡ replyWith (verdictOf rows (inputsOf (g .table)) (e .end)) (countsBy e) → left (saidOf reply) table marks setting ≡ compared g
-    unfolding answered replyOf
+        → saidOf reply ≡ saidBy (verdictOf rows (inputsOf (g .table)) (e .end)) (e .used) (e .steps) → left (saidOf reply) table marks setting ≡ compared g
+    unfolding answered
     finished h reply table setting t s r =
         let table-left : table ≡ tableLeft (g .table) (answerTo g .left .rows) = t ∙ ap (tableLeft (g .table)) (sym (ran .rows-left)) in
         let setting-left : setting ≡ settingLeft (answerTo g .verdict) (g .setting) = s ∙ ap (λ (v : Verdict). settingLeft v (g .setting)) (sym (ran .verdict)) in
-        let replied : reply ≡ replyWith (answerTo g .verdict) (countsOf (answerTo g .left)) = r ∙ ap₂ replyWith (sym (ran .verdict)) counts in
-        ap₂ (λ (x : Reply) (ws : List ℕ). left (saidOf x) ws marks setting) replied table-left
-        ∙ ap₂ (left (saidOf (replyOf (answerTo g))) (tableLeft (g .table) (answerTo g .left .rows))) (sym (ran .marks-left)) setting-left
+        let replied : saidOf reply ≡ saidBy (answerTo g .verdict) (length (answerTo g .left .book .store)) (answerTo g .left .book .steps) =
+        r ∙ sym (rw (ran .verdict, ran .rows-used, ran .steps-taken)) in
+        ap₂ (λ (x : Said) (ws : List ℕ). left x ws marks setting) replied table-left
+        ∙ ap₂ (left (answered g (answerTo g) .reply) (tableLeft (g .table) (answerTo g .left .rows))) (sym (ran .marks-left)) setting-left
         ∙ sym (compared-answered g h)

@@ -9,12 +9,12 @@ use sweep::sweep;
 use sweep_model::Reply;
 use sweep_parts::end::Ended;
 ghost use Prim.Native.Nat.{_*_, _<_, ℕ};
-ghost use Rattle.compare_parts.specs.Code.{countsBy, given, limitsOf, roomOfLists};
-ghost use Rattle.compare_model.specs.Compare.{settingLeft, tableLeft};
+ghost use Rattle.compare_parts.specs.Code.{given, limitsOf, roomOfLists};
+ghost use Rattle.compare_model.specs.Compare.{saidBy, settingLeft, tableLeft};
 ghost use Rattle.compare_model.specs.Passed.{Enough, LimitsWithin};
+ghost use Rattle.compare_model.specs.Said.{saidOf};
 ghost use Rattle.comparer.specs.Work.{Finishes, Ran};
 ghost use Rattle.sweep_parts.specs.Ending.{verdictOf};
-ghost use Rattle.sweep_model.specs.Reply.{replyWith};
 ghost use Rattle.table.specs.Accepted.{Accepted};
 ghost use Rattle.table.specs.Table.{inputsOf, outputsOf, verticesOf};
 ghost use lib.ListN.{length, take};
@@ -66,7 +66,7 @@ pub fn finish(
     requires { ⌜ Finishes (now table) (now pairs) (now rows) limit ended (length (now setting)) ⌝ }
     ensures { λ _. ⌜ now (table .exit) ≡ tableLeft (now (table .entry)) (take (2 * verticesOf (now (table .entry))) (now (pairs .entry))) ⌝ }
     ensures { λ _. ⌜ now (setting .exit) ≡ settingLeft (verdictOf (now (rows .entry)) (inputsOf (now (table .entry))) (ended .end)) (now (setting .entry)) ⌝ }
-    ensures { λ r. ⌜ r ≡ replyWith (verdictOf (now (rows .entry)) (inputsOf (now (table .entry))) (ended .end)) (countsBy ended) ⌝ }
+    ensures { λ r. ⌜ saidOf r ≡ saidBy (verdictOf (now (rows .entry)) (inputsOf (now (table .entry))) (ended .end)) (ended .used) (ended .steps) ⌝ }
 {
     let inputs = table[0] as usize;
     let words = 2 * table::vertices(&table[..]);

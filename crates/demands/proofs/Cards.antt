@@ -1,7 +1,7 @@
 -- The bench cards, computed.
 use Rattle.aig.specs.Fold.{foldOf}
 use Rattle.aig.specs.Lookup.{firstVertex, ownWords}
-use Rattle.compare_model.specs.Compare.{answerTo, answered, beyond?, compared, graphWords, outputsLeft, outside?, problemOf, refusalOf, settingBytes, settingLeft, tableLeft, turnedBack}
+use Rattle.compare_model.specs.Compare.{answerTo, answered, beyond?, compared, graphWords, outputsLeft, outside?, problemOf, refusalOf, saidBy, settingBytes, settingLeft, tableLeft, turnedBack}
 use Rattle.compare_model.specs.Compare.{shortSlice? as slices?}
 use Rattle.demands.specs.Cards.{Cards, Replying, loadedTable, outputFile}
 use Rattle.loader.proofs.Cards.{loading}
@@ -12,7 +12,6 @@ use Rattle.netlist.specs.Check.{checkFile, checkFrom, finish, gateStep, gatesIn
 use Rattle.netlist.specs.Meaning.{andCount}
 use Rattle.netlist.specs.Records.{fieldsRecord, fileRecords, operationOf, recordOf, recordsOf, unended}
 use Rattle.sweep_model.specs.Normalise.{foldedRow, foundRow, normalise, normaliseFrom, normaliseRow, resolve, takeAt, takesFrom, wake, wakeAt}
-use Rattle.sweep_model.specs.Reply.{replyOf, replyWith}
 use Rattle.sweep_model.specs.State.{gone?, has?}
 use Rattle.sweep_model.specs.Sweep.{andThen, answerOf, begin, look, lookAt, start, sweep}
 use Rattle.table.specs.Refusals.{firstRefusal}
@@ -35,7 +34,7 @@ unfolding checkFile checkFrom finish gateStep gatesIn headerStep outputStep outp
 tables = record { and-or = refl; inverse = refl; constants = refl }
 
 replying : Replying
-unfolding answerTo answered beyond? compared graphWords outputsLeft outside? problemOf refusalOf settingBytes settingLeft slices? tableLeft turnedBack outputWords pairs rowsOf sideOutputs malformed? beyondLimits? outOfOrder? downward? allBelow? rowBelow? graphOf functionsOf firstFunctions inputsFrom firstRefusal vertexValues conj invert constantly input sweep answerOf start look lookAt andThen begin normalise normaliseFrom normaliseRow foldedRow foundRow resolve takesFrom takeAt wakeAt wake has? gone? replyOf replyWith foldOf firstVertex ownWords
+unfolding answerTo answered beyond? compared graphWords outputsLeft outside? problemOf refusalOf settingBytes settingLeft slices? tableLeft turnedBack outputWords pairs rowsOf sideOutputs malformed? beyondLimits? outOfOrder? downward? allBelow? rowBelow? graphOf functionsOf firstFunctions inputsFrom firstRefusal vertexValues conj invert constantly input sweep answerOf start look lookAt andThen begin normalise normaliseFrom normaliseRow foldedRow foundRow resolve takesFrom takeAt wakeAt wake has? gone? saidBy foldOf firstVertex ownWords
 replying =
     record {
       and-or-reply = rw (tables .and-or) refl;

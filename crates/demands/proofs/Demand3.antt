@@ -1,10 +1,10 @@
 -- Demand 3, proved. What holds since the table was loaded is kept by every call, and each reply follows from it.
 use Prim.Native.Nat.{ℕ}
 use Rattle.compare_model.proofs.ClaimLaws.{marks-kept, reply-says}
-use Rattle.compare_model.proofs.Since.{Since, since-compared, since-loaded}
+use Rattle.compare_model.proofs.Since.{Since, since-compared, since-loaded, since-value}
 use Rattle.compare_model.specs.Claims.{MarksKept, ReplySays, problemBy}
 use Rattle.compare_model.specs.Compare.{compared, refusalOf}
-use Rattle.demands.proofs.FileLaws.{function-value, table-inputs, table-outputs}
+use Rattle.demands.proofs.FileLaws.{table-inputs, table-outputs, table-value}
 use Rattle.demands.proofs.ReplyLaws.{reply-kept}
 use Rattle.demands.specs.Claims.{ReplyKept}
 use Rattle.demands.specs.Demand3.{Call, Demand3, Each, Holds, Ran}
@@ -16,11 +16,8 @@ use Rattle.loader.specs.declared.Loaded.the-variants.{Accepted}
 use Rattle.loader.specs.declared.Tally.{Tally}
 use Rattle.netlist.specs.Check.{read, readNetlist}
 use Rattle.netlist.specs.Netlist.{Netlist}
-use Rattle.table.proofs.FunctionLaws.{value-output}
-use Rattle.table.specs.Table.{graphOf}
-use Rattle.truth.specs.Truth.{Truth, valueAt}
 use mathlib.Core.List.{List}
-use mathlib.Core.Path.{_∙_, _≡_, ap, subst₂, sym}
+use mathlib.Core.Path.{_∙_, _≡_, subst₂}
 use native.Mathlib.Omega.{arith}
 
 -- The files of an accepted load.
@@ -51,14 +48,11 @@ module _ {d e : Netlist} (h : Loadable d e) (old : List ℕ) where
   since-first = since-loaded (table-accepted d e h old)
 
   holds : {last : List ℕ} {calls : List Call} → Ran (tableOf d e old) calls last → Holds d e (tableOf d e old) calls last
-  unfolding graphOf
-  holds {last} ran =
+  holds ran =
       let s = since-ran since-first ran in
       record {
         values = λ side k t l m.
-            sym (value-output (graphOf last) t (omega (arith, s .inputs, table-inputs d e h old)) side k)
-            ∙ ap (λ (f : Truth). valueAt f t) (s .output side k (omega (arith, table-outputs d e h old)))
-            ∙ function-value d e h old side k t l m;
+            since-value s side k t (omega (arith, table-outputs d e h old)) (omega (arith, table-inputs d e h old)) ∙ table-value d e h old side k t l m;
         replies =
             each-call (λ c. ReplyKept d e (tableOf d e old) (c .given) (c .left) (c .left .reply)) (λ c l here. rw l (reply-kept h old (c .given) here)) since-first ran;
         marks =

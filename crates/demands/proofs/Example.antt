@@ -1,40 +1,46 @@
--- The premises of demand 3 are met, computed from the files' bytes.
-use Prim.Native.Nat.{ℕ}
+-- The premises of demand 3 and of completeness are met, computed from the files' bytes.
+use Prim.Native.Nat.{_<_, suc, zero, ℕ}
 use Rattle.aig.specs.Fold.{foldOf}
 use Rattle.aig.specs.Lookup.{firstVertex, ownWords}
-use Rattle.compare_model.specs.Compare.{answerTo, answered, beyond?, compared, graphWords, outputsLeft, outside?, problemOf, refusalOf, settingBytes, settingLeft, shortSlice?, tableLeft, turnedBack}
+use Rattle.compare_model.specs.Compare.{answerTo, answered, beyond?, compared, graphWords, outputsLeft, outside?, problemOf, refusalOf, saidBy, settingBytes, settingLeft, shortSlice?, tableLeft, turnedBack}
 use Rattle.compare_model.specs.Said.{Said}
+use Rattle.demands.proofs.Complete.{complete}
 use Rattle.demands.proofs.Demand3.{demand3}
 use Rattle.demands.specs.Cards.{comparisonOf, usual}
-use Rattle.demands.specs.Demand3.{Holds, Ran}
-use Rattle.demands.specs.Example.{Example, after, before, firstCall, oneGate, otherFile, secondCall, sixSteps, sizeOne, thirdCall}
+use Rattle.demands.specs.Claims.{gatesAnds}
+use Rattle.demands.specs.Complete.{Decided, Suffice}
+use Rattle.demands.specs.Demand3.{Call, Each, Holds, Ran}
+use Rattle.demands.specs.Example.{Example, after, before, firstCall, leastLimits, oneGate, otherFile, secondCall, sizeOne, thirdCall}
 use Rattle.loader.specs.Build.{askAnd, askGate, askGates, buildFile, buildPair, emptyBuild, foldedOrNot, foundOrMade, literalsFrom}
 use Rattle.loader.specs.Cards.{andFile, room}
 use Rattle.loader.specs.Load.{countsDiffer?, loadResult, readResult, tableOf, tableWords, tallyOf}
 use Rattle.loader.specs.Load.{shortSlice? as shortLoad?}
 use Rattle.loader.specs.declared.Loaded.the-variants.{Accepted}
 use Rattle.netlist.specs.Check.{checkFile, checkFrom, finish, gateStep, gatesIn, headerStep, outputStep, outputsIn, read, readBy, readNetlist}
-use Rattle.netlist.specs.Meaning.{andCount}
+use Rattle.netlist.specs.Meaning.{andCount, andsFrom, fileAnds, gateAnds, operationFunction}
 use Rattle.netlist.specs.Records.{fieldsRecord, fileRecords, operationOf, recordOf, recordsOf, unended}
 use Rattle.netlist.specs.declared.records.Operation.the-variants.{And, Or}
 use Rattle.product_model.specs.Run.{_andThen_, addPart, addRow, countStep, plain, run}
+use Rattle.sweep_model.specs.Claims.{andFunction, andSteps, sum}
 use Rattle.sweep_model.specs.Normalise.{foldedRow, foundRow, normalise, normaliseFrom, normaliseRow, resolve, takeAt, takesFrom, wake, wakeAt}
-use Rattle.sweep_model.specs.Reply.{replyOf, replyWith}
 use Rattle.sweep_model.specs.State.{bare?, dropped?, gone?, has?, open?, waits?}
 use Rattle.sweep_model.specs.Sweep.{andThen, answerOf, anyDropped?, begin, cause, conclude, giveRow, go, goFor, look, lookAt, meet, multiply, openAt, pickFrom, ready?, scanFrom, smaller, start, sweep, swept, topPart, turnsLeft, turnsOf, twinFrom, visit}
-use Rattle.sweep_model.specs.Sweep.{drop as dropVertex, inputsFrom as giveInputs}
+use Rattle.sweep_model.specs.Sweep.{drop as dropAt, inputsFrom as giveRows}
 use Rattle.table.specs.Refusals.{firstRefusal}
 use Rattle.table.specs.Table.{allBelow?, beyondLimits?, downward?, firstFunctions, functionsOf, graphOf, inputsFrom, malformed?, outOfOrder?, outputWords, pairs, rowBelow?, rowsOf, sideOutputs}
 use Rattle.table.specs.Values.{vertexValues}
 use Rattle.text.specs.Numerals.{digitsFrom, numeralOf}
+use Rattle.truth.specs.Cards.{a, b}
 use Rattle.truth.specs.Distinct.{among, distinct, filter}
-use Rattle.truth.specs.Parts.{alike?, cofactors, depends?, parts, size}
+use Rattle.truth.specs.Parts.{alike?, allParts, cofactors, depends?, parts, size, together}
 use Rattle.truth.specs.Settings.{firstDifference}
-use Rattle.truth.specs.Steps.{terminal?}
-use Rattle.truth.specs.Truth.{conj, constant?, constantly, input, invert, same?, valueAt}
-use lib.ListN.{drop}
-use mathlib.Core.List.{List, [], _∷_}
+use Rattle.truth.specs.Steps.{calls, steps, terminal?}
+use Rattle.truth.specs.Truth.{conj, constant?, constantly, disj, input, invert, same?, valueAt}
+use lib.ListN.{drop, getD}
+use mathlib.Core.Bool.{false}
+use mathlib.Core.List.{List, [], _++_, _∷_, map}
 use mathlib.Core.Path.{_≡_, refl}
+use native.Mathlib.Omega.{arith}
 
 -- The files, read.
 reads-left : readNetlist andFile ≡ read (oneGate And)
@@ -51,25 +57,53 @@ unfolding foldOf firstVertex ownWords askAnd askGate askGates buildFile buildPai
 accepts = rw (reads-left, reads-right) refl
 
 -- The table after it.
-words : List ℕ
+abbrev words : List ℕ
 words = 2 ∷ 2 ∷ 1 ∷ 2 ∷ 4 ∷ 3 ∷ 5 ∷ 6 ∷ 9 ∷ drop 9 before
 
 table : after ≡ words
-unfolding foldOf firstVertex ownWords askAnd askGate askGates buildFile buildPair emptyBuild foldedOrNot foundOrMade literalsFrom tableOf tableWords words
+unfolding foldOf firstVertex ownWords askAnd askGate askGates buildFile buildPair emptyBuild foldedOrNot foundOrMade literalsFrom tableOf tableWords
 table = refl
 
 -- The calls on it: none changes it.
 record Computed : Type 0 where
-  first-reply : compared (comparisonOf 0 sixSteps words) .reply ≡ Said.different 4 6
-  first-setting : compared (comparisonOf 0 sixSteps words) .setting ≡ 48 ∷ 49 ∷ []
-  first-table : compared (comparisonOf 0 sixSteps words) .table ≡ words
+  first-accepted : refusalOf (comparisonOf 0 leastLimits words) ≡ 0
+  first-reply : compared (comparisonOf 0 leastLimits words) .reply ≡ Said.different 4 6
+  first-setting : compared (comparisonOf 0 leastLimits words) .setting ≡ 48 ∷ 49 ∷ []
+  first-table : compared (comparisonOf 0 leastLimits words) .table ≡ words
   second-reply : compared (comparisonOf 1 usual words) .reply ≡ Said.refused 12
   second-table : compared (comparisonOf 1 usual words) .table ≡ words
   third-reply : compared (comparisonOf 0 sizeOne words) .reply ≡ Said.size 2 6
 
 computed : Computed
-unfolding answerTo answered beyond? compared graphWords outputsLeft outside? problemOf refusalOf settingBytes settingLeft shortSlice? tableLeft turnedBack outputWords pairs rowsOf sideOutputs malformed? beyondLimits? outOfOrder? downward? allBelow? rowBelow? graphOf functionsOf firstFunctions inputsFrom firstRefusal vertexValues conj constant? constantly input invert same? sweep answerOf anyDropped? cause conclude giveRow go goFor meet multiply openAt pickFrom ready? scanFrom smaller swept topPart turnsLeft turnsOf twinFrom visit dropVertex giveInputs start look lookAt andThen begin normalise normaliseFrom normaliseRow foldedRow foundRow resolve takesFrom takeAt wakeAt wake has? gone? bare? dropped? open? waits? replyOf replyWith foldOf firstVertex ownWords _andThen_ addPart addRow countStep plain run among distinct filter alike? cofactors depends? parts size terminal? firstDifference valueAt words
-computed = record { first-reply = refl; first-setting = refl; first-table = refl; second-reply = refl; second-table = refl; third-reply = refl }
+unfolding answerTo answered beyond? compared graphWords outputsLeft outside? problemOf refusalOf settingBytes settingLeft shortSlice? tableLeft turnedBack outputWords pairs rowsOf sideOutputs malformed? beyondLimits? outOfOrder? downward? allBelow? rowBelow? graphOf functionsOf firstFunctions inputsFrom firstRefusal vertexValues conj constant? constantly input invert same? sweep answerOf anyDropped? cause conclude giveRow go goFor meet multiply openAt pickFrom ready? scanFrom smaller swept topPart turnsLeft turnsOf twinFrom visit dropAt giveRows start look lookAt andThen begin normalise normaliseFrom normaliseRow foldedRow foundRow resolve takesFrom takeAt wakeAt wake has? gone? bare? dropped? open? waits? saidBy foldOf firstVertex ownWords _andThen_ addPart addRow countStep plain run among distinct filter alike? cofactors depends? parts size terminal? firstDifference valueAt
+computed =
+    record { first-accepted = refl; first-reply = refl; first-setting = refl; first-table = refl; second-reply = refl; second-table = refl; third-reply = refl }
+
+-- What the ANDs of the gates come to: a with b, and their inversions.
+record Summed : Type 0 where
+  ands : gatesAnds (oneGate And) (oneGate Or) ≡ (a, b) ∷ (invert a, invert b) ∷ []
+  first-size : size (conj a b) ≡ 2
+  second-size : size (conj (invert a) (invert b)) ≡ 2
+  parts-all : together (inputsFrom 2 1 2 ++ map andFunction ((a, b) ∷ (invert a, invert b) ∷ [])) ≡ 4
+  steps-all : sum (map andSteps ((a, b) ∷ (invert a, invert b) ∷ [])) ≡ 6
+
+summed : Summed
+unfolding gatesAnds fileAnds andsFrom gateAnds operationFunction disj firstFunctions inputsFrom among distinct filter alike? allParts cofactors depends? parts size together calls steps sum terminal? conj constant? constantly input invert same?
+summed = record { ands = refl; first-size = refl; second-size = refl; parts-all = refl; steps-all = refl }
+
+-- The least limits suffice for them.
+suffice : Suffice (oneGate And) (oneGate Or) leastLimits
+suffice =
+    record {
+      small = λ x. none-large (x .place) (rw (summed .ands) at (x .there)) (rw (summed .ands) at (x .large));
+      few-parts = λ l. let m = rw (summed .ands) at l in omega (arith, summed .parts-all);
+      few-steps = λ l. let m = rw (summed .ands) at l in omega (arith, summed .steps-all);
+    }
+  where
+    none-large : (i : ℕ) → i < 2 → 2 < size (andFunction (getD ((a, b) ∷ (invert a, invert b) ∷ []) i (constantly 0 false, constantly 0 false))) → ⊥
+    none-large zero h l = omega (arith, summed .first-size)
+    none-large (suc zero) h l = omega (arith, summed .second-size)
+    none-large (suc (suc i)) h l = omega arith
 
 -- It is met.
 pub example : Example
@@ -79,6 +113,8 @@ example =
       left = reads-left;
       right = reads-right;
       ran = Ran.next refl refl (Ran.next refl refl (Ran.next refl refl Ran.none));
+      suffice = suffice;
+      first-accepted = rw table (computed .first-accepted);
       first-reply = rw table (computed .first-reply);
       first-setting = rw table (computed .first-setting);
       second-reply = rw (table, computed .first-table) (computed .second-reply);
@@ -90,3 +126,15 @@ pub example-holds : Holds (oneGate And) (oneGate Or) after (firstCall ∷ second
 example-holds =
     demand3 andFile otherFile room (record { asked = 2; folded = 0; found = 0; made = 2 }) (oneGate And) (oneGate Or) before (thirdCall .left .table)
     (firstCall ∷ secondCall ∷ thirdCall ∷ []) (example .loaded) (example .left) (example .right) (example .ran)
+
+-- The first call of a list keeps what each does.
+first-of : {P : Call → Type 0} {c : Call} {cs : List Call} → Each P (c ∷ cs) → P c
+first-of (Each.next p r) = p
+
+-- So the first call decides, by completeness.
+pub example-decides : Decided (oneGate And) (oneGate Or) 0 (firstCall .left .reply)
+example-decides =
+    first-of
+    (complete andFile otherFile room (record { asked = 2; folded = 0; found = 0; made = 2 }) (oneGate And) (oneGate Or) before (thirdCall .left .table)
+    (firstCall ∷ secondCall ∷ thirdCall ∷ []) (example .loaded) (example .left) (example .right) (example .ran))
+    (example .first-accepted) (example .suffice)

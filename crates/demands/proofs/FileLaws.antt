@@ -18,9 +18,9 @@ use Rattle.sweep_model.proofs.Marked.{ands-at, ands-length, marked-part}
 use Rattle.sweep_model.specs.Claims.{And, andFunction, andSteps, andsFrom, andsOf, marked, sum}
 use Rattle.sweep_model.specs.Fit.{vertexCount}
 use Rattle.sweep_model.specs.State.{Limits}
-use Rattle.table.proofs.FunctionLaws.{function-false, function-first, length-functions, value-output}
+use Rattle.table.proofs.FunctionLaws.{function-false, function-first, length-functions}
 use Rattle.table.proofs.LayoutLaws.{length-rows, row-at}
-use Rattle.table.specs.Table.{functionsOf, graphOf, inputsFrom, inputsOf, madeOf, outputFunction, outputValue, outputs, outputsOf, rowsOf}
+use Rattle.table.specs.Table.{functionsOf, graphOf, inputsFrom, inputsOf, madeOf, outputValue, outputs, outputsOf, rowsOf}
 use Rattle.table.specs.Values.{Pair}
 use Rattle.truth.proofs.Booleans.{clash, or-left, or-right}
 use Rattle.truth.proofs.Distinct.{among-append, distinct-within}
@@ -30,7 +30,7 @@ use Rattle.truth.proofs.Together.{allParts-append, part-all}
 use Rattle.truth.specs.Distinct.{among}
 use Rattle.truth.specs.Parts.{alike?, allParts, parts, size, together}
 use Rattle.truth.specs.Steps.{steps}
-use Rattle.truth.specs.Truth.{Setting, Truth, conj, constantly, input, invert, valueAt}
+use Rattle.truth.specs.Truth.{Setting, Truth, conj, constantly, input, invert}
 use borrow.Author.Tests.{eq-eqb, ne-eqb}
 use lib.ListN.{List·getD-map, getD, length, length-map}
 use lib.Seq.{ext-getD}
@@ -102,12 +102,6 @@ module _ (d e : Netlist) (h : Loadable d e) (old : List ℕ) where
         | yes i ↦ rw (eq-eqb side 1 i) (left-value d e (h .inputs) (h .outputs) old k s l m)
         | no i ↦ rw (ne-eqb side 1 i) (right-value d e (h .inputs) (h .outputs) old k s (omega (arith, h .outputs)) (omega (arith, h .inputs)))
       ]
-
-  -- So has its function on every setting.
-  pub function-value : (side k : ℕ) (s : Setting) → k < length (d .outputs) → length s ≡ d .inputs
-      → valueAt (outputFunction (graphOf (tableOf d e old)) side k) s ≡ sideValue d e side k s
-  unfolding graphOf
-  function-value side k s l m = value-output (graphOf loaded) s (omega (arith, table-inputs)) side k ∙ table-value side k s l m
 
   abbrev function : ℕ → Truth
   function v = getD (functionsOf (graphOf loaded)) v (constantly (inputsOf loaded) false)

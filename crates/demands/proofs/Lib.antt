@@ -3,5 +3,6 @@ pub mod ReplyLaws
 pub mod Demand3
 pub mod Complete
 pub mod Evaluated
+pub mod FromFiles
 pub mod Cards
 pub mod Example

@@ -3,17 +3,17 @@ use Prim.Native.Nat.{_<_, ℕ}
 use Rattle.compare_model.proofs.ClaimLaws.{marks-kept, reply-says}
 use Rattle.compare_model.proofs.RefusalLaws.{compared-refused, passed}
 use Rattle.compare_model.proofs.Since.{Since}
-use Rattle.compare_model.specs.Claims.{Differs, MarksKept, ReplySays, SameFunction, problemBy}
+use Rattle.compare_model.specs.Claims.{Agrees, Differs, MarksKept, ReplySays, problemBy}
 use Rattle.compare_model.specs.Compare.{Given, compared, problemOf, refusalOf, settingBytes, turnedBack}
 use Rattle.compare_model.specs.Said.{Said}
-use Rattle.demands.proofs.FileLaws.{function-value, table-inputs, table-outputs, too-large, too-many-parts, too-many-steps}
+use Rattle.demands.proofs.FileLaws.{table-inputs, table-outputs, table-value, too-large, too-many-parts, too-many-steps}
 use Rattle.demands.specs.Claims.{Agree, ReplyKept, Separated, sideValue}
 use Rattle.loader.specs.Load.{tableOf}
 use Rattle.loader.specs.Loadable.{Loadable}
 use Rattle.netlist.specs.Netlist.{Netlist}
 use Rattle.sweep_model.specs.Claims.{is, isEither}
-use Rattle.table.specs.Table.{graphOf, outputFunction}
-use Rattle.truth.specs.Truth.{Setting, Truth, valueAt}
+use Rattle.table.specs.Table.{graphOf, outputValue}
+use Rattle.truth.specs.Truth.{Setting}
 use lib.ListN.{drop, length, length-map}
 use mathlib.Core.Bool.{_||_}
 use mathlib.Core.List.{List, _++_}
@@ -30,24 +30,24 @@ module _ {d e : Netlist} (h : Loadable d e) (old : List ℕ) (g : Given) (s : Si
     inside : g .output < length (d .outputs)
     inside = omega (arith, passed g r .output, s .outputs, table-outputs d e h old)
 
-    value : (side : ℕ) (t : Setting) → length t ≡ d .inputs → valueAt (outputFunction (graphOf loaded) side (g .output)) t ≡ sideValue d e side (g .output) t
-    value side t l = function-value d e h old side (g .output) t inside l
+    value : (side : ℕ) (t : Setting) → length t ≡ d .inputs → outputValue (graphOf loaded) side (g .output) t ≡ sideValue d e side (g .output) t
+    value side t l = table-value d e h old side (g .output) t inside l
 
-    agree : SameFunction loaded (g .output) → Agree d e (g .output)
+    agree : Agrees loaded (g .output) → Agree d e (g .output)
     unfolding sideValue
-    agree x t l = sym (value 1 t l) ∙ ap (λ (f : Truth). valueAt f t) x ∙ value 2 t l
+    agree x t l = sym (value 1 t l) ∙ x t (l ∙ sym (table-inputs d e h old)) ∙ value 2 t l
 
     separated : {after : List ℕ} → Differs loaded (g .output) (g .setting) after → Separated d e (g .output) (g .setting) after
     unfolding sideValue settingBytes
     separated x =
         let t = x .setting in
-        let l : length t ≡ d .inputs = x .first .digits ∙ table-inputs d e h old in
+        let l : length t ≡ d .inputs = x .digits ∙ table-inputs d e h old in
         record {
           setting = t;
           digits = l;
           written = x .written ∙ ap (λ (n : ℕ). settingBytes t ++ drop n (g .setting)) (length-map t _ ∙ l);
-          differ = λ k. x .first .differ (value 1 t l ∙ k ∙ sym (value 2 t l));
-          first = λ u m n. sym (value 1 u m) ∙ x .first .first u (m ∙ sym (table-inputs d e h old)) n ∙ value 2 u m;
+          differ = λ k. x .differ (value 1 t l ∙ k ∙ sym (value 2 t l));
+          first = λ u m n. sym (value 1 u m) ∙ x .first u (m ∙ sym (table-inputs d e h old)) n ∙ value 2 u m;
         }
 
     -- What is said of a reply and its marks by the table as loaded, by the files.

@@ -1,8 +1,10 @@
--- Premises of demand 3 that are met: "The and/or pair above", and three comparisons of it, the second of them refused.
+-- Premises of demand 3 and of completeness that are met: "The and/or pair above", and three comparisons of it, the first with limits that
+-- suffice, the second refused.
 use Prim.Native.Nat.{ℕ}
-use Rattle.compare_model.specs.Compare.{Given, compared}
+use Rattle.compare_model.specs.Compare.{Given, compared, refusalOf}
 use Rattle.compare_model.specs.Said.{Said}
 use Rattle.demands.specs.Cards.{comparisonOf, usual}
+use Rattle.demands.specs.Complete.{Suffice}
 use Rattle.demands.specs.Demand3.{Call, Ran}
 use Rattle.loader.specs.Cards.{andFile, room, withOneGate}
 use Rattle.loader.specs.Load.{loadResult, maxTable, tableOf}
@@ -35,16 +37,17 @@ after = tableOf (oneGate And) (oneGate Or) before
 abbrev pub callOf : Given → Call
 callOf g = record { given = g; left = compared g }
 
--- "step limit .. 6 gives Different", "size limit 1 gives Size, rows 2, steps 6"
-abbrev pub sixSteps : Limits
-sixSteps = record { size = 4096; rows = 4096; steps = 6 }
+-- The least limits that suffice: "row limit 3 gives Rows", "step limit 5 gives Steps .. and 6 gives Different; size limit 1 gives Size".
+abbrev pub leastLimits : Limits
+leastLimits = record { size = 2; rows = 4; steps = 6 }
 
+-- "size limit 1 gives Size, rows 2, steps 6"
 abbrev pub sizeOne : Limits
 sizeOne = record { size = 1; rows = 4096; steps = 4096 }
 
 -- The three calls. The second names an output that there is not.
 abbrev pub firstCall : Call
-firstCall = callOf (comparisonOf 0 sixSteps after)
+firstCall = callOf (comparisonOf 0 leastLimits after)
 
 abbrev pub secondCall : Call
 secondCall = callOf (comparisonOf 1 usual (firstCall .left .table))
@@ -57,6 +60,8 @@ pub record Example : Type 0 where
   pub left : readNetlist andFile ≡ read (oneGate And)
   pub right : readNetlist otherFile ≡ read (oneGate Or)
   pub ran : Ran after (firstCall ∷ secondCall ∷ thirdCall ∷ []) (thirdCall .left .table)
+  pub suffice : Suffice (oneGate And) (oneGate Or) leastLimits
+  pub first-accepted : refusalOf (firstCall .given) ≡ 0
   pub first-reply : firstCall .left .reply ≡ Said.different 4 6
   pub first-setting : firstCall .left .setting ≡ 48 ∷ 49 ∷ []
   pub second-reply : secondCall .left .reply ≡ Said.refused 12

@@ -2,8 +2,8 @@
 -- Each rewrites with the end.
 use Rattle.compare_parts.proofs.reply.reply_of.Statement.{statement}
 use Rattle.compare_parts.proofs.reply.reply_of.Tie as tie
+use Rattle.compare_model.specs.Compare.{saidBy}
 use Rattle.sweep_parts.specs.Ending.{verdictOf}
-use Rattle.sweep_model.specs.Reply.{replyWith}
 use borrow.Author.Needs.{needs}
 use mathlib.Core.Path.{refl}
 
@@ -26,19 +26,19 @@ enum-known-end : tie.Need-enum-known-end
 enum-known-end c = search needs
 
 returns : tie.Need-returns
-unfolding replyWith verdictOf
+unfolding saidBy verdictOf
 returns c rows inputs = rw (c .enum-told .given .1) refl
 
 returns-2 : tie.Need-returns-2
-unfolding replyWith verdictOf
+unfolding saidBy verdictOf
 returns-2 c rows inputs = rw (c .enum-told2 .given .1) refl
 
 returns-3 : tie.Need-returns-3
-unfolding replyWith verdictOf
+unfolding saidBy verdictOf
 returns-3 c rows inputs = rw (c .enum-told3 .given .1) refl
 
 returns-4 : tie.Need-returns-4
-unfolding replyWith verdictOf
+unfolding saidBy verdictOf
 returns-4 c rows inputs = rw (c .before .end .given .1) refl
 
 pub reply-of-spec : {M : Type 1} → statement M

@@ -1,0 +1,25 @@
+-- Demand 3 and completeness from the contracts of load and compare.
+use Rattle.demands.proofs.Complete.{complete}
+use Rattle.demands.proofs.Demand3.{demand3}
+use Rattle.demands.specs.Demand3.{Ran}
+use Rattle.demands.specs.FromFiles.{FromFiles}
+use Rattle.loader.proofs.LoadLaws.{load-only, load-table}
+use Rattle.loader.specs.Load.{loadResult, tableOf}
+use Rattle.loader.specs.declared.Loaded.the-variants.{Accepted}
+use mathlib.Core.Path.{_∙_, _≡_, sym}
+
+-- From the files' bytes.
+pub from-files : FromFiles
+from-files left right old loaded last room result tally calls given table accepted ran =
+    let a : loadResult left right room ≡ Accepted tally = sym given ∙ accepted in
+    let h = load-only left right room tally a in
+    let t : loaded ≡ tableOf (h .first) (h .second) old = (rw given at table) ∙ load-table h old in
+    let r : Ran (tableOf (h .first) (h .second) old) calls last = rw t at ran in
+    record {
+      first = h .first;
+      second = h .second;
+      first-read = h .first-read;
+      second-read = h .second-read;
+      holds = rw t (demand3 left right room tally (h .first) (h .second) old last calls a (h .first-read) (h .second-read) r);
+      decides = complete left right room tally (h .first) (h .second) old last calls a (h .first-read) (h .second-read) r;
+    }
