@@ -4,7 +4,8 @@ use Rattle.aig.specs.Literal.{lit, negate, vertexOf}
 use Rattle.aig.specs.declared.literal.Literal.{Literal}
 use Rattle.sweep_graph.specs.Takes.{hasWord}
 use Rattle.sweep_parts.specs.Look.{comparedAs, referenceOf, seenAt}
-use Rattle.sweep_parts.specs.declared.look.Seen.the-variants.{Differ, Equal, Inverse, Nothing}
+use Rattle.sweep_parts.specs.declared.end.End.the-variants.{Differ, Equal, Inverse}
+use Rattle.sweep_parts.specs.declared.look.Seen.the-variants.{Decided, Nothing}
 use Rattle.sweep_parts.specs.declared.look.Seen.{Seen}
 use borrow.Author.Tests.{eq-eqb, ne-eqb}
 use mathlib.Core.Bool.{Bool, false, true}
@@ -12,21 +13,21 @@ use mathlib.Core.List.{List}
 use mathlib.Core.Path.{_∙_, _≡_, ap, ap₂, refl, sym}
 
 module _ (diagrams : List ℕ) (l r : ℕ) {f g : ℕ} (ef : f ≡ referenceOf diagrams l) (eg : g ≡ referenceOf diagrams r) where
-  pub compared-equal : f ≡ g → Equal ≡ comparedAs diagrams l r
+  pub compared-equal : f ≡ g → Decided Equal ≡ comparedAs diagrams l r
   unfolding comparedAs
   compared-equal e = rw (eq-eqb (referenceOf diagrams l) (referenceOf diagrams r) (sym ef ∙ e ∙ eg)) refl
 
-  pub compared-differ : (f ≡ g → ⊥) → Differ f g ≡ comparedAs diagrams l r
+  pub compared-differ : (f ≡ g → ⊥) → Decided (Differ f g) ≡ comparedAs diagrams l r
   unfolding comparedAs
-  compared-differ d = rw (ne-eqb (referenceOf diagrams l) (referenceOf diagrams r) (λ e. d (ef ∙ e ∙ sym eg))) (ap₂ Differ ef eg)
+  compared-differ d = rw (ne-eqb (referenceOf diagrams l) (referenceOf diagrams r) (λ e. d (ef ∙ e ∙ sym eg))) (ap₂ (λ (x y : ℕ). Decided (Differ x y)) ef eg)
 
 module _ (diagrams stages : List ℕ) (l r : ℕ) where
-  pub seen-equal : l ≡ r → Equal ≡ seenAt diagrams stages l r
+  pub seen-equal : l ≡ r → Decided Equal ≡ seenAt diagrams stages l r
   unfolding seenAt
   seen-equal e = rw (eq-eqb l r e) refl
 
   module _ (d : l ≡ r → ⊥) {n : Literal} (en : n ≡ lit (negate r)) where
-    pub seen-inverse : l ≡ n .0 → Inverse ≡ seenAt diagrams stages l r
+    pub seen-inverse : l ≡ n .0 → Decided Inverse ≡ seenAt diagrams stages l r
     unfolding seenAt
     seen-inverse e = rw (ne-eqb l r d, eq-eqb l (negate r) (e ∙ ap (λ (x : Literal). x .0) en)) refl
 

@@ -13,10 +13,12 @@ use Rattle.sweep_model.proofs.Rows.{resolve-within}
 use Rattle.sweep_model.specs.Normalise.{resolve}
 use Rattle.sweep_model.specs.State.{State, has?, literalFunction, stageOf}
 use Rattle.sweep_model.specs.Sweep.{different, ends, equal, look, lookAt, on}
+use Rattle.sweep_parts.specs.Ending.{verdictOf}
 use Rattle.sweep_parts.specs.Look.{Looks, SeenRefers, comparedAs, progressOf, referenceOf, seenAt, seenBy}
 use Rattle.sweep_parts.specs.Represents.{Drawing, Represents}
 use Rattle.sweep_parts.specs.Words.{Words, posed, stateOf}
-use Rattle.sweep_parts.specs.declared.look.Seen.the-variants.{Differ, Equal, Inverse, Nothing}
+use Rattle.sweep_parts.specs.declared.end.End.the-variants.{Differ, Equal, Inverse}
+use Rattle.sweep_parts.specs.declared.look.Seen.the-variants.{Decided, Nothing}
 use Rattle.sweep_parts.specs.declared.task.Task.{Task}
 use Rattle.truth.proofs.Booleans.{iff-equal}
 use Rattle.truth.proofs.Equality.{equal-same, same-equal}
@@ -113,7 +115,7 @@ module _ {t : Task} {functions : List Truth} {entry : List ℕ} {w : Words} (rep
   -- Looking as the model looks.
   pub look-models :
       progressOf (w .rows) (t .inputs) (stateOf (t .count) w) (seenBy t (w .pairs) (w .diagrams) (w .stages)) ≡ look (posed t functions) (stateOf (t .count) w)
-  unfolding look lookAt seenAt comparedAs progressOf
+  unfolding look lookAt seenAt comparedAs progressOf verdictOf
   look-models =
       rw (has-stage (vertexOf l) left-now, has-stage (vertexOf r) right-now)
       (go (eqb l r) (eqb l (negate r)) (hasWord (w .stages) (vertexOf l)) refl (hasWord (w .stages) (vertexOf r)) refl)
@@ -135,7 +137,7 @@ module _ {t : Task} {functions : List Truth} {entry : List ℕ} {w : Words} (rep
 
       compared :
           LiteralDrawn t functions w l → LiteralDrawn t functions w r → (e : Bool)
-          → progressOf (w .rows) (t .inputs) s (cond e Equal (Differ f g))
+          → progressOf (w .rows) (t .inputs) s (cond e (Decided Equal) (Decided (Differ f g)))
           ≡ cond e (ends equal s)
           (ends (different (firstDifference (literalFunction (posed t functions) l) (literalFunction (posed t functions) r))) s)
       compared a b true = refl
@@ -143,13 +145,13 @@ module _ {t : Task} {functions : List Truth} {entry : List ℕ} {w : Words} (rep
 
       both :
           LiteralDrawn t functions w l → LiteralDrawn t functions w r
-          → progressOf (w .rows) (t .inputs) s (cond (eqb f g) Equal (Differ f g))
+          → progressOf (w .rows) (t .inputs) s (cond (eqb f g) (Decided Equal) (Decided (Differ f g)))
           ≡ cond (same? (literalFunction (posed t functions) l) (literalFunction (posed t functions) r)) (ends equal s)
           (ends (different (firstDifference (literalFunction (posed t functions) l) (literalFunction (posed t functions) r))) s)
       both a b = rw (same-reference l r a b) (compared a b (eqb f g))
 
       go : (a b x : Bool) → hasWord (w .stages) (vertexOf l) ≡ x → (y : Bool) → hasWord (w .stages) (vertexOf r) ≡ y
-          → progressOf (w .rows) (t .inputs) s (cond a Equal (cond b Inverse (cond (x && y) (cond (eqb f g) Equal (Differ f g)) Nothing)))
+          → progressOf (w .rows) (t .inputs) s (cond a (Decided Equal) (cond b (Decided Inverse) (cond (x && y) (cond (eqb f g) (Decided Equal) (Decided (Differ f g))) Nothing)))
           ≡ cond a (ends equal s)
           (cond b (ends (different (replicate (t .inputs) false)) s)
           (cond (x && y)
@@ -180,7 +182,7 @@ module _ {t : Task} {functions : List Truth} {entry : List ℕ} {w : Words} (rep
       g = referenceOf (w .diagrams) r
 
       go : (a b c x : Bool) → hasWord (w .stages) (vertexOf l) ≡ x → (y : Bool) → hasWord (w .stages) (vertexOf r) ≡ y
-          → SeenRefers (w .rows) (w .used) (t .inputs) (cond a Equal (cond b Inverse (cond (x && y) (cond c Equal (Differ f g)) Nothing)))
+          → SeenRefers (w .rows) (w .used) (t .inputs) (cond a (Decided Equal) (cond b (Decided Inverse) (cond (x && y) (cond c (Decided Equal) (Decided (Differ f g))) Nothing)))
       go true b c x ex y ey = tt
       go false true c x ex y ey = tt
       go false false true true ex true ey = tt

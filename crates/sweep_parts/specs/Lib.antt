@@ -1,9 +1,9 @@
 pub mod Words
-pub mod Look
 pub mod Sheets
 pub mod Represents
 pub mod Meet
-pub mod Operands
 pub mod Settle
 pub mod Ending
+pub mod Look
+pub mod Operands
 pub mod Cause

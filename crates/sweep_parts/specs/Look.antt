@@ -2,18 +2,19 @@
 use Prim.Native.Nat.{_*_, _+_, _<_, ℕ}
 use Rattle.aig.specs.Literal.{negate, vertexOf}
 use Rattle.aig.specs.Lookup.{firstWord}
-use Rattle.bdd.specs.Diagram.{Reference, denote, edge}
+use Rattle.bdd.specs.Diagram.{edge}
 use Rattle.sweep_graph.specs.Takes.{hasWord}
 use Rattle.sweep_model.specs.Normalise.{resolve}
 use Rattle.sweep_model.specs.State.{State}
-use Rattle.sweep_model.specs.Sweep.{Progress, different, ends, equal, on}
-use Rattle.sweep_parts.specs.declared.look.Seen.the-variants.{Differ, Equal, Inverse, Nothing}
+use Rattle.sweep_model.specs.Sweep.{Progress, ends, on}
+use Rattle.sweep_parts.specs.Ending.{Refers, verdictOf}
+use Rattle.sweep_parts.specs.declared.end.End.the-variants.{Differ, Equal, Inverse}
+use Rattle.sweep_parts.specs.declared.look.Seen.the-variants.{Decided, Nothing}
 use Rattle.sweep_parts.specs.declared.look.Seen.{Seen}
 use Rattle.sweep_parts.specs.declared.task.Task.{Task}
-use Rattle.truth.specs.Settings.{firstDifference}
 use lib.Dec.{eqb}
-use lib.ListN.{length, replicate}
-use mathlib.Core.Bool.{_&&_, cond, false}
+use lib.ListN.{length}
+use mathlib.Core.Bool.{_&&_, cond}
 use mathlib.Core.List.{List}
 
 -- The reference of a literal's function.
@@ -22,12 +23,12 @@ referenceOf diagrams r = edge (firstWord diagrams (vertexOf r)) r
 
 unfoldable pub comparedAs : List ℕ → ℕ → ℕ → Seen
 comparedAs diagrams l r =
-    cond (eqb (referenceOf diagrams l) (referenceOf diagrams r)) Equal (Differ (referenceOf diagrams l) (referenceOf diagrams r))
+    cond (eqb (referenceOf diagrams l) (referenceOf diagrams r)) (Decided Equal) (Decided (Differ (referenceOf diagrams l) (referenceOf diagrams r)))
 
 unfoldable pub seenAt : List ℕ → List ℕ → ℕ → ℕ → Seen
 seenAt diagrams stages l r =
-    cond (eqb l r) Equal
-    (cond (eqb l (negate r)) Inverse
+    cond (eqb l r) (Decided Equal)
+    (cond (eqb l (negate r)) (Decided Inverse)
     (cond (hasWord stages (vertexOf l) && hasWord stages (vertexOf r)) (comparedAs diagrams l r) Nothing))
 
 abbrev pub seenBy : Task → List ℕ → List ℕ → List ℕ → Seen
@@ -44,14 +45,10 @@ pub record Looks (t : Task) (pairs diagrams stages : List ℕ) : Type 0 where
 
 -- How the sweep goes on or ends, by what was seen in a state with these rows, of some inputs.
 unfoldable pub progressOf : List ℕ → ℕ → State → Seen → Progress
-progressOf rows inputs s Equal = ends equal s
-progressOf rows inputs s Inverse = ends (different (replicate inputs false)) s
-progressOf rows inputs s (Differ f g) = ends (different (firstDifference (denote rows inputs f) (denote rows inputs g))) s
+progressOf rows inputs s (Decided e) = ends (verdictOf rows inputs e) s
 progressOf rows inputs s Nothing = on s
 
 -- The references seen are those of rows in use.
 abbrev pub SeenRefers : List ℕ → ℕ → ℕ → Seen → Type 0
-SeenRefers rows used inputs Equal = Unit {0}
-SeenRefers rows used inputs Inverse = Unit {0}
-SeenRefers rows used inputs (Differ f g) = Reference rows used inputs f × Reference rows used inputs g
+SeenRefers rows used inputs (Decided e) = Refers rows used inputs e
 SeenRefers rows used inputs Nothing = Unit {0}

@@ -1,4 +1,5 @@
 // The two literals looked at.
+use crate::end::End;
 use crate::task::Task;
 use aig::literal::Literal;
 use bdd::references::edge_to;
@@ -14,11 +15,9 @@ ghost use Rattle.sweep_parts.specs.Look.{Looks, comparedAs, seenAt, seen
 ghost use lib.ListN.{length};
 ghost use mathlib.Core.Path.{_≡_};
 
-// One literal or one function; inverse literals; the references of two functions; or nothing is decided.
+// How the sweep ends, or nothing is decided.
 pub enum Seen {
-    Equal,
-    Inverse,
-    Differ(usize, usize),
+    Decided(End),
     Nothing,
 }
 
@@ -40,9 +39,9 @@ fn compare(diagrams: &[u32], l: Literal, r: Literal) -> Seen
     let f = reference_of(diagrams, l);
     let g = reference_of(diagrams, r);
     if f == g {
-        Seen::Equal
+        Seen::Decided(End::Equal)
     } else {
-        Seen::Differ(f, g)
+        Seen::Decided(End::Differ(f, g))
     }
 }
 
@@ -60,10 +59,10 @@ fn look_at(diagrams: &[u32], stages: &[u32], l: Literal, r: Literal) -> Seen
     ensures { λ x. ⌜ x ≡ seenAt (now (diagrams .entry)) (now (stages .entry)) (l .0) (r .0) ⌝ }
 {
     if l.0 == r.0 {
-        return Seen::Equal;
+        return Seen::Decided(End::Equal);
     }
     if l.0 == r.negated().0 {
-        return Seen::Inverse;
+        return Seen::Decided(End::Inverse);
     }
     if is_drawn(stages, l) {
         if is_drawn(stages, r) {

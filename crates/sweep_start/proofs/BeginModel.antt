@@ -16,7 +16,7 @@ use Rattle.sweep_parts.specs.Sheets.{Sheets}
 use Rattle.sweep_parts.specs.Words.{posed}
 use Rattle.sweep_parts.specs.declared.end.End.the-variants.{Undecided}
 use Rattle.sweep_parts.specs.declared.end.End.{End}
-use Rattle.sweep_parts.specs.declared.look.Seen.the-variants.{Differ, Equal, Inverse, Nothing}
+use Rattle.sweep_parts.specs.declared.look.Seen.the-variants.{Decided, Nothing}
 use Rattle.sweep_parts.specs.declared.look.Seen.{Seen}
 use Rattle.sweep_parts.specs.declared.task.Task.{Task}
 use Rattle.sweep_start.specs.Given.{AllGiven, Frame, Framed, GivenTo, GivesRows}
@@ -136,9 +136,7 @@ module _
   -- The sweep goes on or ends after all rows are given.
   given-going :
       (seen : Seen) → seen ≡ seenBy t (b .pairs) (after .diagrams) (after .stages) → GivesInputs t b (board (b .pairs) after) (goingBy seen used 0)
-  given-going Equal e = λ functions entry h. looked-ends Equal (all-given h .given .represents) (seen-reached e h) (seen-refer e h) refl
-  given-going Inverse e = λ functions entry h. looked-ends Inverse (all-given h .given .represents) (seen-reached e h) (seen-refer e h) refl
-  given-going (Differ f g) e = λ functions entry h. looked-ends (Differ f g) (all-given h .given .represents) (seen-reached e h) (seen-refer e h) refl
+  given-going (Decided i) e = λ functions entry h. looked-ends (Decided i) (all-given h .given .represents) (seen-reached e h) (seen-refer e h) refl
   given-going Nothing e = seen-nothing e refl
 
   -- The same for what the code returned.
@@ -211,17 +209,8 @@ module _ (t : Task) (b middle : Board) (prepares : Prepares t b middle) where
         looked-ends seen rep reached (subst (SeenRefers (middle .sheets .rows) 0 (t .inputs)) (sym es) (look-refers rep)) i
 
   -- The sweep ends after the first look where something was seen.
-  start-going :
-      (seen : Seen) → seen ≡ seenBy t (middle .pairs) (middle .sheets .diagrams) (middle .sheets .stages) → (seen ≡ Nothing → ⊥)
-      → Starts t b middle (goingBy seen 0 0)
-  unfolding progressOf andThen
-  start-going Equal es d = λ functions h. start-ended es functions h (start-seen es functions h) refl
-  start-going Inverse es d = λ functions h. start-ended es functions h (start-seen es functions h) refl
-  start-going (Differ f g) es d = λ functions h. start-ended es functions h (start-seen es functions h) refl
-  start-going Nothing es d = absurd (d refl)
-
-  -- The same for what the code returned.
   pub start-ends :
-      (seen : Seen) → seen ≡ seenBy t (middle .pairs) (middle .sheets .diagrams) (middle .sheets .stages) → (seen ≡ Nothing → ⊥)
-      → {g : Going} → g ≡ goingBy seen 0 0 → Starts t b middle g
-  start-ends seen es d eg = subst (Starts t b middle) (sym eg) (start-going seen es d)
+      {seen : Seen} → seen ≡ seenBy t (middle .pairs) (middle .sheets .diagrams) (middle .sheets .stages) → {e : End} → seen ≡ Decided e
+      → Starts t b middle (Ended e 0 0)
+  unfolding progressOf andThen
+  start-ends es i = λ functions h. start-ended (sym i ∙ es) functions h (start-seen (sym i ∙ es) functions h) refl

@@ -78,6 +78,10 @@ pub fn start(
     let seen = look(&pairs[..], &diagrams[..], &stages[..], task);
     match seen {
         Seen::Nothing => give_inputs(&pairs[..], diagrams, stages, rows, marks, task),
-        _ => after_look(seen, 0, 0),
+        Seen::Decided(end) => Going::Ended {
+            end,
+            used: 0,
+            steps: 0,
+        },
     }
 }

@@ -8,9 +8,8 @@ use Rattle.sweep_parts.specs.Meet.{Board, board}
 use Rattle.sweep_parts.specs.Represents.{Represents}
 use Rattle.sweep_parts.specs.Settle.{onBoard, stateOn}
 use Rattle.sweep_parts.specs.Sheets.{sheets}
-use Rattle.sweep_parts.specs.declared.end.End.the-variants as end
 use Rattle.sweep_parts.specs.declared.end.End.{End}
-use Rattle.sweep_parts.specs.declared.look.Seen.the-variants.{Differ, Equal, Inverse, Nothing}
+use Rattle.sweep_parts.specs.declared.look.Seen.the-variants.{Decided, Nothing}
 use Rattle.sweep_parts.specs.declared.look.Seen.{Seen}
 use Rattle.sweep_parts.specs.declared.task.Task.{Task}
 use Rattle.sweep_turn.specs.Visit.{goingBy}
@@ -47,19 +46,15 @@ Continues (On u k) = Unit {0}
 pub seen-ends :
     (rows : List ℕ) (inputs : ℕ) (s : State) (used steps : ℕ) (seen : Seen) {e : End} → goingBy seen used steps ≡ Ended e used steps
     → progressOf rows inputs s seen ≡ ends (verdictOf rows inputs e) s
-unfolding progressOf verdictOf
-seen-ends rows inputs s used steps Equal i = ap (λ (g : Going). ends (verdictOf rows inputs (endOr end.Equal g)) s) i
-seen-ends rows inputs s used steps Inverse i = ap (λ (g : Going). ends (verdictOf rows inputs (endOr end.Equal g)) s) i
-seen-ends rows inputs s used steps (Differ x y) i = ap (λ (g : Going). ends (verdictOf rows inputs (endOr end.Equal g)) s) i
+unfolding progressOf
+seen-ends rows inputs s used steps (Decided d) i = ap (λ (g : Going). ends (verdictOf rows inputs (endOr d g)) s) i
 seen-ends rows inputs s used steps Nothing i = absurd (subst Continues i tt)
 
 -- Its references are those seen.
 pub seen-refers :
     (rows : List ℕ) (inputs used steps : ℕ) (seen : Seen) {e : End} → goingBy seen used steps ≡ Ended e used steps → SeenRefers rows used inputs seen
     → Refers rows used inputs e
-seen-refers rows inputs used steps Equal i h = subst (λ (g : Going). Refers rows used inputs (endOr end.Equal g)) i tt
-seen-refers rows inputs used steps Inverse i h = subst (λ (g : Going). Refers rows used inputs (endOr end.Equal g)) i tt
-seen-refers rows inputs used steps (Differ x y) i h = subst (λ (g : Going). Refers rows used inputs (endOr end.Equal g)) i h
+seen-refers rows inputs used steps (Decided d) i h = subst (λ (g : Going). Refers rows used inputs (endOr d g)) i h
 seen-refers rows inputs used steps Nothing i h = absurd (subst Continues i tt)
 
 -- The sweep ends after a look.

@@ -18,7 +18,7 @@ use Rattle.sweep_parts.specs.Settle.{stateOn}
 use Rattle.sweep_parts.specs.Words.{posed}
 use Rattle.sweep_parts.specs.declared.end.End.the-variants.{Undecided}
 use Rattle.sweep_parts.specs.declared.end.End.{End}
-use Rattle.sweep_parts.specs.declared.look.Seen.the-variants as seen
+use Rattle.sweep_parts.specs.declared.look.Seen.the-variants.{Decided, Nothing}
 use Rattle.sweep_parts.specs.declared.look.Seen.{Seen}
 use Rattle.sweep_parts.specs.declared.task.Task.{Task}
 use Rattle.sweep_step.specs.Multiply.{DueOn, Looked, Scene, Takes, multiplied}
@@ -174,10 +174,8 @@ module _ (t : Task) (v used steps : ℕ) (b : Board) (inside : v < t .count) {r 
 
   visit-takes : r ≡ true → (after : Board) (o : Step) → Takes t v used steps b after o → Visits t v used steps b after (goingOf v o)
   unfolding progressOf
-  visit-takes e after (step.Looked seen.Equal u k) took = visit-seen e after seen.Equal u k refl took
-  visit-takes e after (step.Looked seen.Inverse u k) took = visit-seen e after seen.Inverse u k refl took
-  visit-takes e after (step.Looked (seen.Differ f g) u k) took = visit-seen e after (seen.Differ f g) u k refl took
-  visit-takes e after (step.Looked seen.Nothing u k) took = λ x h.
+  visit-takes e after (step.Looked (Decided i) u k) took = visit-seen e after (Decided i) u k refl took
+  visit-takes e after (step.Looked Nothing u k) took = λ x h.
       let l = took x (ready-due h inside er e) in
       let i = visit-product e h ∙ l .reached in
       record { reached = i; here = record { represents = l .represents; scanning = scan-next h inside i } }

@@ -12,8 +12,8 @@ use Rattle.sweep_parts.specs.Meet.{Board}
 use Rattle.sweep_parts.specs.Represents.{Represents}
 use Rattle.sweep_parts.specs.Settle.{onBoard, stateOn}
 use Rattle.sweep_parts.specs.Words.{posed}
-use Rattle.sweep_parts.specs.declared.end.End.the-variants.{Differ, Equal, Inverse, Undecided}
-use Rattle.sweep_parts.specs.declared.look.Seen.the-variants as seen
+use Rattle.sweep_parts.specs.declared.end.End.the-variants.{Undecided}
+use Rattle.sweep_parts.specs.declared.look.Seen.the-variants.{Decided, Nothing}
 use Rattle.sweep_parts.specs.declared.look.Seen.{Seen}
 use Rattle.sweep_parts.specs.declared.task.Task.{Task}
 use Rattle.sweep_step.specs.Multiply.{Scene}
@@ -44,10 +44,8 @@ pub record ReadyAsked (v : ℕ) (pairs stages : List ℕ) : Type 0 where
 
 -- How the sweep goes on after what was seen, and after the product of vertex v.
 abbrev pub goingBy : Seen → ℕ → ℕ → Going
-goingBy seen.Equal u k = Ended Equal u k
-goingBy seen.Inverse u k = Ended Inverse u k
-goingBy (seen.Differ f g) u k = Ended (Differ f g) u k
-goingBy seen.Nothing u k = On u k
+goingBy (Decided e) u k = Ended e u k
+goingBy Nothing u k = On u k
 
 abbrev pub goingOf : ℕ → Step → Going
 goingOf v (step.Looked seen u k) = goingBy seen u k

@@ -52,21 +52,7 @@ pub fn after_look(seen: Seen, used: usize, steps: usize) -> Going
     ensures { λ r. ⌜ r ≡ goingBy seen used steps ⌝ }
 {
     match seen {
-        Seen::Equal => Going::Ended {
-            end: End::Equal,
-            used,
-            steps,
-        },
-        Seen::Inverse => Going::Ended {
-            end: End::Inverse,
-            used,
-            steps,
-        },
-        Seen::Differ(f, g) => Going::Ended {
-            end: End::Differ(f, g),
-            used,
-            steps,
-        },
+        Seen::Decided(end) => Going::Ended { end, used, steps },
         Seen::Nothing => Going::On { used, steps },
     }
 }

@@ -6,8 +6,6 @@ use Rattle.sweep_start.proofs.BeginModel.{prepared-giving, prepared-loo
 use Rattle.sweep_start.proofs.start.start.Statement.{statement}
 use Rattle.sweep_start.proofs.start.start.Tie as tie
 use borrow.Author.Needs.{needs}
-use mathlib.Core.Logic.{⊎-elim}
-use native.Mathlib.Omega.{arith}
 
 prepare-requires : tie.Need-prepare-requires
 prepare-requires c κs = search needs
@@ -27,8 +25,8 @@ give-inputs-requires c κs =
     let start = c .before .before .before .before .before .before .before .before .before .before .before .before .before .before .before .before .before .before .before .before .before .before .before .before .before .before .before .before .before .before .before .before .before .before .before .before in
     prepared-giving (start .args .task) (board (start .args .pairs .now) (sheets (start .args .diagrams .now) (start .args .stages .now) (start .args .rows .now) (start .args .marks .now))) (board (prepare .last .0) (sheets (prepare .last .1 .1 .0) (prepare .last .1 .1 .1 .0) (prepare .last .1 .1 .1 .1 .0) (prepare .last .1 .1 .1 .1 .1 .0))) (prepare .ensures) (start .pre)
 
-after-look-requires : tie.Need-after-look-requires
-after-look-requires c κs = search needs
+enum-known-seen : tie.Need-enum-known-seen
+enum-known-seen c = search needs
 
 same-length : tie.Need-same-length
 same-length c = search needs
@@ -77,9 +75,10 @@ same-length-12 c = search needs
 
 returns-2 : tie.Need-returns-2
 returns-2 c =
-    let prepare = c .before .before .before .before .before .before .before .before .before .before .before .before .before .before .before .before .before .before .prepare in
-    let start = c .before .before .before .before .before .before .before .before .before .before .before .before .before .before .before .before .before .before .before .before .before .before .before .before .before .before .before .before .before .before .before in
-    start-ends (start .args .task) (board (start .args .pairs .now) (sheets (start .args .diagrams .now) (start .args .stages .now) (start .args .rows .now) (start .args .marks .now))) (board (prepare .last .0) (sheets (prepare .last .1 .1 .0) (prepare .last .1 .1 .1 .0) (prepare .last .1 .1 .1 .1 .0) (prepare .last .1 .1 .1 .1 .1 .0))) (prepare .ensures) (c .before .before .look .result) (c .before .before .look .ensures) (λ e. ⊎-elim (λ h. omega arith) (λ l. ⊎-elim (λ h. omega arith) (λ h. omega arith) l) (rw e at (c .before .match .keys2))) (c .after-look .ensures)
+    let look = c .before .before .before .look in
+    let prepare = c .before .before .before .before .before .before .before .before .before .before .before .before .before .before .before .before .before .before .before .prepare in
+    let start = c .before .before .before .before .before .before .before .before .before .before .before .before .before .before .before .before .before .before .before .before .before .before .before .before .before .before .before .before .before .before .before .before in
+    start-ends (start .args .task) (board (start .args .pairs .now) (sheets (start .args .diagrams .now) (start .args .stages .now) (start .args .rows .now) (start .args .marks .now))) (board (prepare .last .0) (sheets (prepare .last .1 .1 .0) (prepare .last .1 .1 .1 .0) (prepare .last .1 .1 .1 .1 .0) (prepare .last .1 .1 .1 .1 .1 .0))) (prepare .ensures) (look .ensures) (c .before .seen .given .1)
 
 pub start-spec : {M : Type 1} → statement M
 start-spec =
@@ -89,7 +88,7 @@ start-spec =
     look-requires
     enum-told
     give-inputs-requires
-    after-look-requires
+    enum-known-seen
     same-length
     same-length-2
     same-length-3
