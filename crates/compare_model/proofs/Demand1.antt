@@ -1,13 +1,11 @@
 -- Demand 1 for a comparison: a good call is not refused.
 use Prim.Native.Nat.{_*_, ℕ}
 use Rattle.compare_model.proofs.RefusalLaws.{compared-answered}
-use Rattle.compare_model.specs.Compare.{Given, Room, answerTo, answered, beyond?, callTests, compared, outside?, refusalOf, shortSlice?, sliceWords}
+use Rattle.compare_model.specs.Compare.{Given, Room, answerTo, answered, beyond?, callTests, compared, outside?, refusalOf, saidBy, shortSlice?, sliceWords}
 use Rattle.compare_model.specs.Demand1.{Answers, Good, says-different, says-equal, says-undecided}
 use Rattle.compare_model.specs.Passed.{Enough, LimitsWithin, Passed, Within}
-use Rattle.sweep_model.specs.Reply.{countsOf, replyOf, replyWith}
 use Rattle.sweep_model.specs.State.{Limits}
 use Rattle.sweep_model.specs.Sweep.{Verdict, different, equal, undecided}
-use Rattle.sweep_model.specs.declared.Counts.{Counts}
 use Rattle.table.proofs.AcceptedLaws.{accepts}
 use Rattle.table.proofs.FitsLaws.{fits-accepted}
 use Rattle.table.proofs.RefusalLaws.{table-passed}
@@ -83,10 +81,10 @@ module _ (g : Given) where
 
   -- Its reply is Equal, Different or Undecided.
   pub compare-answers : Good g → Answers (compared g .reply)
-  unfolding answered replyOf replyWith
-  compare-answers h = rw (compared-answered g (compare-accepts h)) (said (answerTo g .verdict) (countsOf (answerTo g .left)))
+  unfolding answered saidBy
+  compare-answers h = rw (compared-answered g (compare-accepts h)) (said (answerTo g .verdict))
     where
-      said : (x : Verdict) (c : Counts) → Answers (replyWith x c)
-      said equal c = says-equal
-      said (different s) c = says-different
-      said (undecided x) c = says-undecided
+      said : (x : Verdict) → Answers (saidBy x (length (answerTo g .left .book .store)) (answerTo g .left .book .steps))
+      said equal = says-equal
+      said (different s) = says-different
+      said (undecided x) = says-undecided x _ _

@@ -1,10 +1,8 @@
 -- Demand 1 for a comparison: what a good call is given, word by word and with the paper's own numbers.
 use Prim.Native.Nat.{_*_, _+_, _<_, _≤_, ℕ}
 use Rattle.compare_model.specs.Compare.{Given}
+use Rattle.compare_model.specs.Said.{Said, undecidedBy}
 use Rattle.sweep_model.specs.declared.Cause.{Cause}
-use Rattle.sweep_model.specs.declared.Counts.{Counts}
-use Rattle.sweep_model.specs.declared.Reply.the-variants.{Different, Equal, Undecided}
-use Rattle.sweep_model.specs.declared.Reply.{Reply}
 use Rattle.table.specs.Fits.{Fits, word}
 use lib.ListN.{length}
 
@@ -32,7 +30,7 @@ pub record Good (g : Given) : Type 0 where
   pub setting : word (g .table) 0 ≤ length (g .setting)
 
 -- "Replies: Equal; Different; Undecided": a reply that is no refusal.
-pub data Answers : Reply → Type 0 where
-  says-equal : {c : Counts} → Answers (Equal c)
-  says-different : {c : Counts} → Answers (Different c)
-  says-undecided : {x : Cause} {c : Counts} → Answers (Undecided x c)
+pub data Answers : Said → Type 0 where
+  says-equal : {rows steps : ℕ} → Answers (Said.equal rows steps)
+  says-different : {rows steps : ℕ} → Answers (Said.different rows steps)
+  says-undecided : (x : Cause) (rows steps : ℕ) → Answers (undecidedBy x rows steps)
