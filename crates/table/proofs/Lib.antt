@@ -1,4 +1,5 @@
 pub mod AcceptedLaws
+pub mod FitsLaws
 pub mod FunctionLaws
 pub mod LayoutLaws
 pub mod MeaningLaws

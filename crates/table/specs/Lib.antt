@@ -1,4 +1,5 @@
 pub mod Accepted
+pub mod Fits
 pub mod Limits
 pub mod Refusals
 pub mod Table
