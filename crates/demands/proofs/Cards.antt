@@ -8,7 +8,7 @@ use Rattle.loader.proofs.Cards.{loading}
 use Rattle.loader.specs.Build.{askAnd, askGate, askGates, buildFile, buildPair, emptyBuild, foldedOrNot, foundOrMade, literalsFrom}
 use Rattle.loader.specs.Cards.{andFile, orFile}
 use Rattle.loader.specs.Load.{countsDiffer?, loadResult, maxTable, readResult, shortSlice?, tableAfter, tableOf, tableWords, tallyOf}
-use Rattle.netlist.specs.Check.{checkFile, checkFrom, finish, gateStep, gatesIn, headerStep, outputStep, outputsIn, readBy, readNetlist}
+use Rattle.netlist.specs.Check.{below?, checkFile, checkFrom, due?, dueAfter, finish, formed?, gatesIn, header?, known?, limited?, more?, outputsIn, readBy, readNetlist}
 use Rattle.netlist.specs.Meaning.{andCount}
 use Rattle.netlist.specs.Records.{fieldsRecord, fileRecords, operationOf, recordOf, recordsOf, unended}
 use Rattle.sweep_model.specs.Normalise.{foldedRow, foundRow, normalise, normaliseFrom, normaliseRow, resolve, takeAt, takesFrom, wake, wakeAt}
@@ -30,7 +30,7 @@ record Tables : Type 0 where
   constants : loadedTable (outputFile 48 48) (outputFile 48 49) ≡ 0 ∷ 0 ∷ 1 ∷ 0 ∷ 1 ∷ drop 5 (replicate maxTable 0)
 
 tables : Tables
-unfolding checkFile checkFrom finish gateStep gatesIn headerStep outputStep outputsIn readBy readNetlist digitsFrom numeralOf fieldsRecord fileRecords operationOf recordOf recordsOf unended foldOf firstVertex ownWords askAnd askGate askGates buildFile buildPair emptyBuild foldedOrNot foundOrMade literalsFrom countsDiffer? loadResult readResult shortSlice? tallyOf andCount firstRefusal tableAfter tableOf tableWords
+unfolding dueAfter below? checkFile checkFrom due? finish firstRefusal formed? gatesIn header? known? limited? more? outputsIn readBy readNetlist digitsFrom numeralOf fieldsRecord fileRecords operationOf recordOf recordsOf unended foldOf firstVertex ownWords askAnd askGate askGates buildFile buildPair emptyBuild foldedOrNot foundOrMade literalsFrom countsDiffer? loadResult readResult shortSlice? tallyOf andCount tableAfter tableOf tableWords
 tables = record { and-or = refl; inverse = refl; constants = refl }
 
 replying : Replying

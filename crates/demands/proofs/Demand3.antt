@@ -10,9 +10,8 @@ use Rattle.demands.specs.Claims.{ReplyKept}
 use Rattle.demands.specs.Demand3.{Call, Demand3, Each, Holds, Ran}
 use Rattle.loader.proofs.LoadLaws.{load-only}
 use Rattle.loader.proofs.TableLaws.{table-accepted}
-use Rattle.loader.specs.Load.{Room, loadResult, tableOf}
+use Rattle.loader.specs.Load.{Room, accepted, loadResult, tableOf}
 use Rattle.loader.specs.Loadable.{Loadable}
-use Rattle.loader.specs.declared.Loaded.the-variants.{Accepted}
 use Rattle.loader.specs.declared.Tally.{Tally}
 use Rattle.netlist.specs.Check.{read, readNetlist}
 use Rattle.netlist.specs.Netlist.{Netlist}
@@ -21,7 +20,7 @@ use mathlib.Core.Path.{_∙_, _≡_, subst₂}
 use native.Mathlib.Omega.{arith}
 
 -- The files of an accepted load.
-pub loaded-files : (left right : List ℕ) (room : Room) (tally : Tally) (d e : Netlist) → loadResult left right room ≡ Accepted tally
+pub loaded-files : (left right : List ℕ) (room : Room) (tally : Tally) (d e : Netlist) → loadResult left right room ≡ accepted tally
     → readNetlist left ≡ read d → readNetlist right ≡ read e → Loadable d e
 loaded-files left right room tally d e a l r =
     let h = load-only left right room tally a in

@@ -13,10 +13,9 @@ use Rattle.demands.specs.Demand3.{Call, Each, Holds, Ran}
 use Rattle.demands.specs.Example.{Example, after, before, firstCall, leastLimits, oneGate, otherFile, secondCall, sizeOne, thirdCall}
 use Rattle.loader.specs.Build.{askAnd, askGate, askGates, buildFile, buildPair, emptyBuild, foldedOrNot, foundOrMade, literalsFrom}
 use Rattle.loader.specs.Cards.{andFile, room}
-use Rattle.loader.specs.Load.{countsDiffer?, loadResult, readResult, tableOf, tableWords, tallyOf}
+use Rattle.loader.specs.Load.{accepted, countsDiffer?, loadResult, readResult, tableOf, tableWords, tallyOf}
 use Rattle.loader.specs.Load.{shortSlice? as shortLoad?}
-use Rattle.loader.specs.declared.Loaded.the-variants.{Accepted}
-use Rattle.netlist.specs.Check.{checkFile, checkFrom, finish, gateStep, gatesIn, headerStep, outputStep, outputsIn, read, readBy, readNetlist}
+use Rattle.netlist.specs.Check.{below?, checkFile, checkFrom, due?, dueAfter, finish, formed?, gatesIn, header?, known?, limited?, more?, outputsIn, read, readBy, readNetlist}
 use Rattle.netlist.specs.Meaning.{andCount, andsFrom, fileAnds, gateAnds, operationFunction}
 use Rattle.netlist.specs.Records.{fieldsRecord, fileRecords, operationOf, recordOf, recordsOf, unended}
 use Rattle.netlist.specs.declared.records.Operation.the-variants.{And, Or}
@@ -44,15 +43,15 @@ use native.Mathlib.Omega.{arith}
 
 -- The files, read.
 reads-left : readNetlist andFile ≡ read (oneGate And)
-unfolding checkFile checkFrom finish gateStep gatesIn headerStep outputStep outputsIn readBy readNetlist digitsFrom numeralOf fieldsRecord fileRecords operationOf recordOf recordsOf unended
+unfolding dueAfter below? checkFile checkFrom due? finish firstRefusal formed? gatesIn header? known? limited? more? outputsIn readBy readNetlist digitsFrom numeralOf fieldsRecord fileRecords operationOf recordOf recordsOf unended
 reads-left = refl
 
 reads-right : readNetlist otherFile ≡ read (oneGate Or)
-unfolding checkFile checkFrom finish gateStep gatesIn headerStep outputStep outputsIn readBy readNetlist digitsFrom numeralOf fieldsRecord fileRecords operationOf recordOf recordsOf unended
+unfolding dueAfter below? checkFile checkFrom due? finish firstRefusal formed? gatesIn header? known? limited? more? outputsIn readBy readNetlist digitsFrom numeralOf fieldsRecord fileRecords operationOf recordOf recordsOf unended
 reads-right = refl
 
 -- The load is accepted.
-accepts : loadResult andFile otherFile room ≡ Accepted (record { asked = 2; folded = 0; found = 0; made = 2 })
+accepts : loadResult andFile otherFile room ≡ accepted (record { asked = 2; folded = 0; found = 0; made = 2 })
 unfolding foldOf firstVertex ownWords askAnd askGate askGates buildFile buildPair emptyBuild foldedOrNot foundOrMade literalsFrom countsDiffer? loadResult readResult shortLoad? tallyOf andCount firstRefusal
 accepts = rw (reads-left, reads-right) refl
 

@@ -4,14 +4,13 @@ use Rattle.demands.proofs.Demand3.{demand3}
 use Rattle.demands.specs.Demand3.{Ran}
 use Rattle.demands.specs.FromFiles.{FromFiles}
 use Rattle.loader.proofs.LoadLaws.{load-only, load-table}
-use Rattle.loader.specs.Load.{loadResult, tableOf}
-use Rattle.loader.specs.declared.Loaded.the-variants.{Accepted}
-use mathlib.Core.Path.{_∙_, _≡_, sym}
+use Rattle.loader.specs.Load.{accepted, answerOf, loadResult, tableOf}
+use mathlib.Core.Path.{_∙_, _≡_, ap, sym}
 
 -- From the files' bytes.
 pub from-files : FromFiles
-from-files left right old loaded last room result tally calls given table accepted ran =
-    let a : loadResult left right room ≡ Accepted tally = sym given ∙ accepted in
+from-files left right old loaded last room result tally calls given table was-accepted ran =
+    let a : loadResult left right room ≡ accepted tally = sym given ∙ ap answerOf was-accepted in
     let h = load-only left right room tally a in
     let t : loaded ≡ tableOf (h .first) (h .second) old = (rw given at table) ∙ load-table h old in
     let r : Ran (tableOf (h .first) (h .second) old) calls last = rw t at ran in

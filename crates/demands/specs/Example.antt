@@ -7,8 +7,7 @@ use Rattle.demands.specs.Cards.{comparisonOf, usual}
 use Rattle.demands.specs.Complete.{Suffice}
 use Rattle.demands.specs.Demand3.{Call, Ran}
 use Rattle.loader.specs.Cards.{andFile, room, withOneGate}
-use Rattle.loader.specs.Load.{loadResult, maxTable, tableOf}
-use Rattle.loader.specs.declared.Loaded.the-variants.{Accepted}
+use Rattle.loader.specs.Load.{accepted, loadResult, maxTable, tableOf}
 use Rattle.netlist.specs.Check.{read, readNetlist}
 use Rattle.netlist.specs.Netlist.{Netlist}
 use Rattle.netlist.specs.declared.records.Operation.the-variants.{And, Or}
@@ -56,7 +55,7 @@ abbrev pub thirdCall : Call
 thirdCall = callOf (comparisonOf 0 sizeOne (secondCall .left .table))
 
 pub record Example : Type 0 where
-  pub loaded : loadResult andFile otherFile room ≡ Accepted (record { asked = 2; folded = 0; found = 0; made = 2 })
+  pub loaded : loadResult andFile otherFile room ≡ accepted (record { asked = 2; folded = 0; found = 0; made = 2 })
   pub left : readNetlist andFile ≡ read (oneGate And)
   pub right : readNetlist otherFile ≡ read (oneGate Or)
   pub ran : Ran after (firstCall ∷ secondCall ∷ thirdCall ∷ []) (thirdCall .left .table)

@@ -3,7 +3,7 @@ use Prim.Native.Nat.{ℕ}
 use Rattle.compare_model.specs.Compare.{refusalOf}
 use Rattle.demands.specs.Complete.{Decided, Suffice}
 use Rattle.demands.specs.Demand3.{Call, Each, Holds, Ran}
-use Rattle.loader.specs.Load.{Room, loadResult, tableAfter}
+use Rattle.loader.specs.Load.{Room, answerOf, loadResult, tableAfter}
 use Rattle.loader.specs.declared.Loaded.the-variants.{Accepted}
 use Rattle.loader.specs.declared.Loaded.{Loaded}
 use Rattle.loader.specs.declared.Tally.{Tally}
@@ -26,6 +26,6 @@ pub record Demanded (left right loaded : List ℕ) (calls : List Call) (last : L
 abbrev pub FromFiles : Type 0
 FromFiles =
     (left right old loaded last : List ℕ) (room : Room) (result : Loaded) (tally : Tally) (calls : List Call)
-    → result ≡ loadResult left right room → loaded ≡ tableAfter result (readNetlist left) (readNetlist right) old
+    → answerOf result ≡ loadResult left right room → loaded ≡ tableAfter (answerOf result) (readNetlist left) (readNetlist right) old
     → result ≡ Accepted tally → Ran loaded calls last
     → Demanded left right loaded calls last

@@ -1,3 +1,4 @@
 pub mod DigitLaws
+pub mod EvaluableLaws
 pub mod NumberLaws
 pub mod ReadyLaws

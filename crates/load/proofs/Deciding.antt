@@ -1,39 +1,45 @@
 -- What the decision says of load's result: the same refusal, or that all the tests are passed.
 use Prim.Native.Nat.{_*_, _+_, _≤_, ℕ}
-use Rattle.loader.specs.Load.{Room, countsDiffer?, loadResult, maxTable, maxVertices, pairTests, readResult, shortSlice?, tableAfter, tableOf, tallyOf}
-use Rattle.loader.specs.declared.Loaded.the-variants as loaded
+use Rattle.loader.specs.Load.{Room, accepted, countsDiffer?, loadResult, maxTable, maxVertices, pairTests, readResult, refused, shortSlice?, tableAfter, tableOf, tallyOf}
 use Rattle.loader.specs.declared.Tally.{Tally}
-use Rattle.load.specs.Decision.{decision, pairDecision, readDecision}
+use Rattle.load.specs.Decision.{checkedAs, decision, pairDecision, readDecision}
 use Rattle.load.specs.File.{netlistOf}
 use Rattle.load.specs.Pair.{Agreed, Enough}
 use Rattle.load.specs.declared.decision.Decision.the-variants.{Go, Refused}
 use Rattle.load.specs.declared.decision.Decision.{Decision}
 use Rattle.netlist.proofs.Choices.{cond-cases}
-use Rattle.netlist.proofs.ReadLaws.{accepted}
+use Rattle.netlist.proofs.ReadLaws.{accepted-holds}
 use Rattle.netlist.specs.Accepted.{Holds}
-use Rattle.netlist.specs.Check.{checkFile, readBy, readNetlist}
+use Rattle.netlist.specs.Check as check
+use Rattle.netlist.specs.Check.{answerOf, checkFile, readBy, readNetlist}
 use Rattle.netlist.specs.Limits.{maxBytes}
 use Rattle.netlist.specs.Meaning.{andCount}
+use Rattle.netlist.specs.Passing.{StartsAt}
 use Rattle.netlist.specs.declared.check.Checked.the-variants as checked
 use Rattle.netlist.specs.declared.check.Checked.{Checked}
 use Rattle.netlist.specs.declared.check.Summary.{Summary}
+use Rattle.table.proofs.RefusalLaws.{neither}
 use Rattle.table.specs.Limits.{maxAnds}
 use Rattle.table.specs.Refusals.{firstRefusal}
+use Rattle.text.specs.Split.{upTo}
 use borrow.Author.Tests.{eqb-true, ltb-false, not-false}
 use lib.Dec.{eqb, ltb}
 use lib.ListN.{length}
-use mathlib.Core.Bool.{Bool, _||_, false, not, true}
+use mathlib.Core.Bool.{_||_, false, not}
 use mathlib.Core.List.{List}
-use mathlib.Core.Path.{_≡_, ap, refl, subst, sym, _∙_}
-use native.Mathlib.Omega.{arith}
-
--- Neither of two tests applies.
-neither : (a b : Bool) → (a || b) ≡ false → (a ≡ false) × (b ≡ false)
-neither true b h = absurd (let z : _≡_ {A = ℕ} 0 1 = cc in omega arith)
-neither false b h = (refl, h)
+use mathlib.Core.Path.{_≡_, ap, ap₂, refl, subst, sym, _∙_}
 
 same : (m n : ℕ) → not (eqb m n) ≡ false → m ≡ n
 same m n h = eqb-true m n (not-false (eqb m n) h)
+
+-- The result of a check is its answer with the place at which the gate lines start.
+pub checked-is : (start : ℕ) (r : Checked) {a : check.Answer} → answerOf r ≡ a → StartsAt start r → r ≡ checkedAs start a
+checked-is start (checked.Accepted s) e at = ap (λ (n : ℕ). checkedAs n (answerOf (checked.Accepted s))) at ∙ ap (checkedAs start) e
+checked-is start (checked.Refused k n) e at = ap (checkedAs start) e
+
+-- Equal checks decide alike.
+pub both-checked : (room : Room) {c d e f : Checked} → c ≡ d → e ≡ f → readDecision c e room ≡ readDecision d f room
+both-checked room p q = ap₂ (λ (x y : Checked). readDecision x y room) p q
 
 module _ (left right : List ℕ) (room : Room) where
   -- Two files are loaded: they agree, the lent slices are long enough, and the result is the tally of their graph.
@@ -41,10 +47,10 @@ module _ (left right : List ℕ) (room : Room) where
     pub agreed : Agreed left right s t
     pub enough : Enough (room .pairs) (room .look) (room .literals) (room .outputs)
     pub table : maxTable ≤ room .table
-    pub result : loadResult left right room ≡ loaded.Accepted (tallyOf (netlistOf left s) (netlistOf right t))
+    pub result : loadResult left right room ≡ accepted (tallyOf (netlistOf left s) (netlistOf right t))
 
   abbrev pub Says : Decision → Type 0
-  Says (Refused k f n) = loadResult left right room ≡ loaded.Refused k f n
+  Says (Refused k f n) = loadResult left right room ≡ refused k f n
   Says (Go s t) = Goes s t
 
   not-short : shortSlice? room ≡ false → Enough (room .pairs) (room .look) (room .literals) (room .outputs)
@@ -67,18 +73,19 @@ module _ (left right : List ℕ) (room : Room) where
     result-read = rw (short-left, short-right) refl
 
     -- Both files are accepted.
-    module _ (s t : Summary) (of-left : checkFile left ≡ checked.Accepted s) (of-right : checkFile right ≡ checked.Accepted t) where
+    module _ (s t : Summary) (of-left : checkFile left ≡ answerOf (checked.Accepted s)) (starts-left : s .start ≡ length (upTo 10 left) + 1)
+        (of-right : checkFile right ≡ answerOf (checked.Accepted t)) (starts-right : t .start ≡ length (upTo 10 right) + 1) where
       left-holds : Holds left s (netlistOf left s)
       unfolding netlistOf
-      left-holds = accepted left s of-left
+      left-holds = accepted-holds left s of-left starts-left
 
       right-holds : Holds right t (netlistOf right t)
       unfolding netlistOf
-      right-holds = accepted right t of-right
+      right-holds = accepted-holds right t of-right starts-right
 
       result-pair :
           loadResult left right room
-          ≡ firstRefusal (loaded.Accepted (tallyOf (netlistOf left s) (netlistOf right t))) (pairTests (netlistOf left s) (netlistOf right t) room)
+          ≡ firstRefusal (accepted (tallyOf (netlistOf left s) (netlistOf right t))) (pairTests (netlistOf left s) (netlistOf right t) room)
       unfolding readResult
       result-pair = result-read ∙ rw (left-holds .reads, right-holds .reads) refl
 
@@ -110,11 +117,15 @@ module _ (left right : List ℕ) (room : Room) where
             result = result-pair ∙ rw (differ, one, many, two, three, four) refl;
           }
 
-    read-says : (c e : Checked) → checkFile left ≡ c → checkFile right ≡ e → Says (readDecision c e room)
+    read-says : (c e : check.Answer) → checkFile left ≡ c → checkFile right ≡ e
+        → Says (readDecision (checkedAs (length (upTo 10 left) + 1) c) (checkedAs (length (upTo 10 right) + 1) e) room)
     unfolding readDecision readNetlist readBy readResult
-    read-says (checked.Refused k n) e p q = result-read ∙ rw p refl
-    read-says (checked.Accepted s) (checked.Refused k n) p q = result-read ∙ rw (p, q) refl
-    read-says (checked.Accepted s) (checked.Accepted t) p q = pair-says s t p q
+    read-says (check.refused k n) e p q = result-read ∙ rw p refl
+    read-says (check.accepted c) (check.refused k n) p q = result-read ∙ rw (p, q) refl
+    read-says (check.accepted c) (check.accepted e) p q =
+        pair-says (record { inputs = c .inputs; gates = c .gates; outputs = c .outputs; ands = c .ands; start = length (upTo 10 left) + 1 })
+        (record { inputs = e .inputs; gates = e .gates; outputs = e .outputs; ands = e .ands; start = length (upTo 10 right) + 1 })
+        p refl q refl
 
   pub decision-says : Says (decision left right room)
   unfolding decision firstRefusal loadResult
@@ -125,7 +136,7 @@ module _ (left right : List ℕ) (room : Room) where
 
   module _ {x : Decision} (e : x ≡ decision left right room) where
     -- A refusal that is decided is the result.
-    pub refusal-result : {k f n : ℕ} → x ≡ Refused k f n → loadResult left right room ≡ loaded.Refused k f n
+    pub refusal-result : {k f n : ℕ} → x ≡ Refused k f n → loadResult left right room ≡ refused k f n
     refusal-result h = subst Says (sym e ∙ h) decision-says
 
     -- Files that are loaded pass all tests.
@@ -135,6 +146,6 @@ module _ (left right : List ℕ) (room : Room) where
   -- The table after it.
   pub goes-table :
       {s t : Summary} → Goes s t → (tally : Tally) (old : List ℕ)
-      → tableAfter (loaded.Accepted tally) (readNetlist left) (readNetlist right) old ≡ tableOf (netlistOf left s) (netlistOf right t) old
+      → tableAfter (accepted tally) (readNetlist left) (readNetlist right) old ≡ tableOf (netlistOf left s) (netlistOf right t) old
   unfolding tableAfter
   goes-table g tally old = rw (g .agreed .left .reads, g .agreed .right .reads) refl

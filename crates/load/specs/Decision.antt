@@ -3,7 +3,7 @@ use Prim.Native.Nat.{_+_, ℕ}
 use Rattle.loader.specs.Load.{Room, maxTable, shortSlice?}
 use Rattle.load.specs.declared.decision.Decision.the-variants.{Go, Refused}
 use Rattle.load.specs.declared.decision.Decision.{Decision}
-use Rattle.netlist.specs.Check.{checkFile}
+use Rattle.netlist.specs.Check.{Answer, accepted, checkFile, refused}
 use Rattle.netlist.specs.Limits.{maxBytes}
 use Rattle.netlist.specs.declared.check.Checked.the-variants as checked
 use Rattle.netlist.specs.declared.check.Checked.the-variants.{Accepted}
@@ -11,6 +11,7 @@ use Rattle.netlist.specs.declared.check.Checked.{Checked}
 use Rattle.netlist.specs.declared.check.Summary.{Summary}
 use Rattle.table.specs.Limits.{maxAnds}
 use Rattle.table.specs.Refusals.{firstRefusal}
+use Rattle.text.specs.Split.{upTo}
 use lib.Dec.{eqb, ltb}
 use lib.ListN.{length}
 use mathlib.Core.Bool.{_||_, not}
@@ -32,10 +33,19 @@ readDecision (checked.Refused k n) c room = Refused k 1 n
 readDecision (Accepted s) (checked.Refused k n) room = Refused k 2 n
 readDecision (Accepted s) (Accepted t) room = pairDecision s t room
 
+-- The result of the check of a file: its answer, and where its gate lines start.
+abbrev pub checkedAs : ℕ → Answer → Checked
+checkedAs start (accepted c) =
+    Accepted (record { inputs = c .inputs; gates = c .gates; outputs = c .outputs; ands = c .ands; start = start })
+checkedAs start (refused k n) = checked.Refused k n
+
+abbrev pub checkedFile : List ℕ → Checked
+checkedFile bytes = checkedAs (length (upTo 10 bytes) + 1) (checkFile bytes)
+
 -- "Load tests 1 for both files"
 unfoldable pub decision : List ℕ → List ℕ → Room → Decision
 decision left right room =
-    firstRefusal (readDecision (checkFile left) (checkFile right) room)
+    firstRefusal (readDecision (checkedFile left) (checkedFile right) room)
     (record { answer = Refused 1 1 0; applies = ltb maxBytes (length left) }
     ∷ record { answer = Refused 1 2 0; applies = ltb maxBytes (length right) }
     ∷ [])

@@ -1,8 +1,6 @@
 -- The slices that load is lent: their lengths, and what a refusal leaves in them.
 use Prim.Native.Nat.{ℕ}
-use Rattle.loader.specs.Load.{Room}
-use Rattle.loader.specs.declared.Loaded.the-variants.{Accepted, Refused}
-use Rattle.loader.specs.declared.Loaded.{Loaded}
+use Rattle.loader.specs.Load.{Answer, Room, accepted, refused}
 use mathlib.Core.List.{List}
 use mathlib.Core.Path.{_≡_}
 
@@ -22,6 +20,6 @@ abbrev pub working : List ℕ → List ℕ → List ℕ → List ℕ → Working
 working pairs look literals outputs = record { pairs = pairs; look = look; literals = literals; outputs = outputs }
 
 -- "refusals leaving all of them unchanged, and free are only the working slices"
-abbrev pub Kept : Loaded → Working → Working → Type 0
-Kept (Accepted t) before after = Unit
-Kept (Refused k f n) before after = after ≡ before
+abbrev pub Kept : Answer → Working → Working → Type 0
+Kept (accepted t) before after = Unit
+Kept (refused k f n) before after = after ≡ before

@@ -1,7 +1,7 @@
 // Loading: two drawing files into one table.
 use crate::decision::Decision;
 use loader::Loaded;
-ghost use Rattle.loader.specs.Load.{loadResult, tableAfter};
+ghost use Rattle.loader.specs.Load.{answerOf, loadResult, tableAfter};
 ghost use Rattle.load.specs.Lent.{Kept, roomOf, working};
 ghost use Rattle.netlist.specs.Check.{readNetlist};
 ghost use lib.ListN.{length};
@@ -27,9 +27,9 @@ pub fn load(
     literals: &mut [u32],
     outputs: &mut [u32],
 ) -> Loaded
-    ensures result { λ r. ⌜ r ≡ loadResult (now (left .entry)) (now (right .entry)) (roomOf (length (now (table .entry))) (length (now (pairs .entry))) (length (now (look .entry))) (length (now (literals .entry))) (length (now (outputs .entry)))) ⌝ }
-    ensures table { λ r. ⌜ now (table .exit) ≡ tableAfter r (readNetlist (now (left .entry))) (readNetlist (now (right .entry))) (now (table .entry)) ⌝ }
-    ensures kept { λ r. ⌜ Kept r (working (now (pairs .entry)) (now (look .entry)) (now (literals .entry)) (now (outputs .entry))) (working (now (pairs .exit)) (now (look .exit)) (now (literals .exit)) (now (outputs .exit))) ⌝ }
+    ensures result { λ r. ⌜ answerOf r ≡ loadResult (now (left .entry)) (now (right .entry)) (roomOf (length (now (table .entry))) (length (now (pairs .entry))) (length (now (look .entry))) (length (now (literals .entry))) (length (now (outputs .entry)))) ⌝ }
+    ensures table { λ r. ⌜ now (table .exit) ≡ tableAfter (answerOf r) (readNetlist (now (left .entry))) (readNetlist (now (right .entry))) (now (table .entry)) ⌝ }
+    ensures kept { λ r. ⌜ Kept (answerOf r) (working (now (pairs .entry)) (now (look .entry)) (now (literals .entry)) (now (outputs .entry))) (working (now (pairs .exit)) (now (look .exit)) (now (literals .exit)) (now (outputs .exit))) ⌝ }
 {
     let decision = decision::decide(
         left,

@@ -1,4 +1,7 @@
-// load on the bench's pairs, on the largest pair, and on every refusal. A line for each: what the pair is, and what came; for small pairs also the table's words.
+// load on the pairs of `pairs.txt`, on files that are too long and on the largest pair: the bench's pairs, and each refusal alone and with the next in the order of tests.
+// Two lines for each: what the pair is, and what came; then the table's first words.
+use card_file::field;
+use card_file::number;
 use libc::STDOUT_FILENO;
 use loader::Loaded;
 ghost use Prim.Native.Nat.{_≤_};
@@ -64,64 +67,21 @@ fn print_words(words: &[u32], count: usize)
     io::write_all(STDOUT_FILENO, b"\n");
 }
 
-fn bench() {
-    show_words(
-        b"xor 2 2 against false",
-        b"N\t1\t1\t1\t1\nG\txor\t2\t2\nO\t4\n",
-        b"N\t1\t1\t0\t1\nO\t0\n",
-        6,
-    );
-    show_words(
-        b"and 2 4 against or 3 5 inverted",
-        b"N\t1\t2\t1\t1\nG\tand\t2\t4\nO\t6\n",
-        b"N\t1\t2\t1\t1\nG\tor\t3\t5\nO\t7\n",
-        8,
-    );
-    show_words(
-        b"and 2 4 against or 2 4",
-        b"N\t1\t2\t1\t1\nG\tand\t2\t4\nO\t6\n",
-        b"N\t1\t2\t1\t1\nG\tor\t2\t4\nO\t6\n",
-        10,
-    );
-    show_words(
-        b"xor 2 4 against or, and, and",
-        b"N\t1\t2\t1\t1\nG\txor\t2\t4\nO\t6\n",
-        b"N\t1\t2\t3\t1\nG\tor\t2\t4\nG\tand\t2\t4\nG\tand\t6\t9\nO\t10\n",
-        18,
-    );
-    show_words(
-        b"no inputs, false against true",
-        b"N\t1\t0\t0\t1\nO\t0\n",
-        b"N\t1\t0\t0\t1\nO\t1\n",
-        6,
-    );
+// The pairs of the file, a card each: a name, both drawing files, and how many words of the table are shown.
+fn show_cards(file: &[u8]) {
+    let count = card_file::card_count(file);
+    let mut k = 0;
+    while k < count {
+        show_card(card_file::card(file, k));
+        k += 1;
+    }
 }
 
-fn refusals() {
-    show_words(
-        b"both files damaged",
-        b"N\t1\t2\t1\t1\nG\tand\t2\t6\nO\t6\n",
-        b"N\t2\t2\t1\t1\nG\tand\t2\t4\nO\t6\n",
-        3,
-    );
-    show_words(
-        b"the second file damaged",
-        b"N\t1\t2\t1\t1\nG\tand\t2\t4\nO\t6\n",
-        b"N\t1\t2\t1\t1\nG\tand\t2\t4\nO\t8\n",
-        3,
-    );
-    show_words(
-        b"another number of inputs",
-        b"N\t1\t2\t1\t1\nG\tand\t2\t4\nO\t6\n",
-        b"N\t1\t3\t1\t1\nG\tand\t2\t4\nO\t6\n",
-        3,
-    );
-    show_words(
-        b"another number of outputs",
-        b"N\t1\t2\t1\t1\nG\tand\t2\t4\nO\t6\n",
-        b"N\t1\t2\t1\t2\nG\tand\t2\t4\nO\t6\nO\t7\n",
-        3,
-    );
+fn show_card(card: &[u8]) {
+    let count = number(field(card, 4)) as usize;
+    if count <= TABLE {
+        show_words(field(card, 1), field(card, 2), field(card, 3), count);
+    }
 }
 
 // Writes a byte where there is room, and gives back the next place.
@@ -186,13 +146,14 @@ fn put_gates(file: &mut [u8], from: usize, gates: u32, inverted: u32) -> usize
     at
 }
 
-// Writes 64 outputs, the last vertices.
-fn put_outputs(file: &mut [u8], from: usize, gates: u32) -> usize
+// Writes some outputs, vertices of the last 64.
+fn put_outputs(file: &mut [u8], from: usize, gates: u32, outputs: u32) -> usize
     requires { ⌜ gates ≤ 4096 ⌝ }
+    requires { ⌜ outputs ≤ 64 ⌝ }
 {
     let mut at = from;
     let mut i: u32 = 0;
-    while i < 64 {
+    while i < outputs {
         at = put_all(file, at, b"O\t");
         at = put_number(file, at, 2 * (1 + gates + i));
         at = put(file, at, b'\n');
@@ -201,16 +162,19 @@ fn put_outputs(file: &mut [u8], from: usize, gates: u32) -> usize
     at
 }
 
-// Writes a file of 64 inputs, a chain of ANDs and 64 outputs, and gives back its length.
-fn put_file(file: &mut [u8], gates: u32, inverted: u32) -> usize
+// Writes a file of 64 inputs, a chain of ANDs and some outputs, and gives back its length.
+fn put_file(file: &mut [u8], gates: u32, inverted: u32, outputs: u32) -> usize
     requires { ⌜ gates ≤ 4096 ⌝ }
     requires { ⌜ inverted ≤ 1 ⌝ }
+    requires { ⌜ outputs ≤ 64 ⌝ }
 {
     let at = put_all(file, 0, b"N\t1\t64\t");
     let at = put_number(file, at, gates);
-    let at = put_all(file, at, b"\t64\n");
+    let at = put(file, at, b'\t');
+    let at = put_number(file, at, outputs);
+    let at = put(file, at, b'\n');
     let at = put_gates(file, at, gates, inverted);
-    put_outputs(file, at, gates)
+    put_outputs(file, at, gates, outputs)
 }
 
 // The first bytes of a file, or all.
@@ -305,22 +269,28 @@ fn show_short(
     show_lent(name, left, right, table, pairs, look, literals, outputs, 3);
 }
 
-fn lengths(left: &[u8], right: &[u8], more: &[u8]) {
+// The pairs around 6,144 ANDs: `more` has one AND more than `left`, and `fewer` as many as `right` and an output less.
+fn ands(left: &[u8], right: &[u8], more: &[u8], fewer: &[u8]) {
     show_words(b"the largest pair", left, right, 3);
     show_words(b"one file twice", left, left, 3);
-    show_words(b"one AND more", more, right, 3);
+    show_words(b"8, one AND more", more, right, 3);
+    show_words(b"7 and 8", more, fewer, 3);
+}
+
+// Slices that are short, with the refusal before theirs and alone.
+fn lengths(left: &[u8], right: &[u8], more: &[u8]) {
     show_short(
-        b"one AND more, no table",
+        b"8 and 9, a table one word short",
         more,
         right,
-        0,
+        TABLE - 1,
         SLICE,
         SLICE,
         SLICE,
         SLICE,
     );
     show_short(
-        b"a table one word short",
+        b"9, a table one word short",
         left,
         right,
         TABLE - 1,
@@ -330,7 +300,7 @@ fn lengths(left: &[u8], right: &[u8], more: &[u8]) {
         SLICE,
     );
     show_short(
-        b"all slices short",
+        b"9 and 14, all slices one word short",
         left,
         right,
         TABLE - 1,
@@ -350,7 +320,7 @@ fn slices(left: &[u8], right: &[u8]) {
 // The slices of the graph: its pairs, and its look-up.
 fn graph_slices(left: &[u8], right: &[u8]) {
     show_short(
-        b"pairs one word short",
+        b"14, pairs one word short",
         left,
         right,
         TABLE,
@@ -360,7 +330,7 @@ fn graph_slices(left: &[u8], right: &[u8]) {
         SLICE,
     );
     show_short(
-        b"the look-up one word short",
+        b"14, the look-up one word short",
         left,
         right,
         TABLE,
@@ -374,7 +344,7 @@ fn graph_slices(left: &[u8], right: &[u8]) {
 // The slices of literals: those of a file's vertices, and those of the outputs.
 fn literal_slices(left: &[u8], right: &[u8]) {
     show_short(
-        b"literals one word short",
+        b"14, literals one word short",
         left,
         right,
         TABLE,
@@ -384,7 +354,7 @@ fn literal_slices(left: &[u8], right: &[u8]) {
         SLICE,
     );
     show_short(
-        b"outputs one word short",
+        b"14, outputs one word short",
         left,
         right,
         TABLE,
@@ -399,27 +369,34 @@ fn large() {
     let mut left = [0u8; BYTES];
     let mut right = [0u8; BYTES];
     let mut more = [0u8; BYTES];
-    let left_end = put_file(&mut left, 3072, 0);
-    let right_end = put_file(&mut right, 3072, 1);
-    let more_end = put_file(&mut more, 3073, 0);
-    lengths(
-        front(&left, left_end),
-        front(&right, right_end),
-        front(&more, more_end),
-    );
-    slices(front(&left, left_end), front(&right, right_end));
+    let mut fewer = [0u8; BYTES];
+    let left_end = put_file(&mut left, 3072, 0, 64);
+    let right_end = put_file(&mut right, 3072, 1, 64);
+    let more_end = put_file(&mut more, 3073, 0, 64);
+    let fewer_end = put_file(&mut fewer, 3072, 1, 63);
+    let one = front(&left, left_end);
+    let two = front(&right, right_end);
+    let three = front(&more, more_end);
+    ands(one, two, three, front(&fewer, fewer_end));
+    lengths(one, two, three);
+    slices(one, two);
 }
 
+// Files of 65,536 bytes and of one more: no file so long keeps the layout, so 2 applies to each as well.
 fn long() {
     let file = [b'\n'; BYTES];
-    show_words(b"a file of 65536 bytes", &file[..65536], b"", 3);
-    show_words(b"a file of 65537 bytes", &file, b"", 3);
-    show_words(b"a damaged file and one of 65537 bytes", b"N", &file, 3);
+    show_words(b"65536 bytes in file 1", &file[..65536], b"", 3);
+    show_words(b"1 in file 1, 5 in file 2", &file, b"", 3);
+    show_words(b"2 in file 1, 1 in file 2", b"N", &file, 3);
+    show_words(b"1 in both files", &file, &file, 3);
 }
 
 fn main() {
-    bench();
-    refusals();
-    large();
+    let mut bytes = io::large_buffer();
+    let file = os::open_read(b"pairs.txt");
+    let end = io::read_full(file, &mut bytes);
+    libc::close(file);
+    show_cards(&bytes[..end]);
     long();
+    large();
 }

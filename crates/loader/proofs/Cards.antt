@@ -5,7 +5,7 @@ use Rattle.aig.specs.Lookup.{firstVertex, ownWords}
 use Rattle.loader.specs.Build.{askAnd, askGate, askGates, askXor, buildFile, buildPair, emptyBuild, foldedOrNot, foundOrMade, literalsFrom}
 use Rattle.loader.specs.Cards.{Loading, andFile, falseFile, orFile, xorFile}
 use Rattle.loader.specs.Load.{countsDiffer?, loadResult, readResult, shortSlice?, tableAfter, tableOf, tableWords, tallyOf}
-use Rattle.netlist.specs.Check.{checkFile, checkFrom, finish, gateStep, gatesIn, headerStep, outputStep, outputsIn, read, readBy, readNetlist}
+use Rattle.netlist.specs.Check.{below?, checkFile, checkFrom, due?, dueAfter, finish, formed?, gatesIn, header?, known?, limited?, more?, outputsIn, read, readBy, readNetlist}
 use Rattle.netlist.specs.Meaning.{andCount}
 use Rattle.netlist.specs.Netlist.{Netlist}
 use Rattle.netlist.specs.Records.{fieldsRecord, fileRecords, operationOf, recordOf, recordsOf, unended}
@@ -32,7 +32,7 @@ record FilesRead : Type 0 where
   or-file : readNetlist orFile ≡ read (oneGate Or 3 5 7)
 
 reads : FilesRead
-unfolding checkFile checkFrom finish gateStep gatesIn headerStep outputStep outputsIn readBy readNetlist digitsFrom numeralOf fieldsRecord fileRecords operationOf recordOf recordsOf unended
+unfolding dueAfter below? checkFile checkFrom due? finish firstRefusal formed? gatesIn header? known? limited? more? outputsIn readBy readNetlist digitsFrom numeralOf fieldsRecord fileRecords operationOf recordOf recordsOf unended
 reads = record { xor-file = refl; false-file = refl; and-file = refl; or-file = refl }
 
 -- The graphs, built.

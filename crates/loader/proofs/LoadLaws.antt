@@ -1,17 +1,16 @@
 -- Demand 1: the files of two netlists within the limits are accepted, and nothing else is.
 use Prim.Native.Nat.{_*_, _+_, _≤_, ℕ}
-use Rattle.loader.specs.Load.{Room, countsDiffer?, lengthTests, loadResult, maxTable, maxVertices, pairTests, readResult, shortSlice?, tableAfter, tableOf, tallyOf}
+use Rattle.loader.specs.Load.{Room, accepted, countsDiffer?, lengthTests, loadResult, maxTable, maxVertices, pairTests, readResult, refused, shortSlice?, tableAfter, tableOf, tallyOf}
 use Rattle.loader.specs.Loadable.{Enough, Loadable, Loads}
-use Rattle.loader.specs.declared.Loaded.the-variants.{Accepted, Refused}
 use Rattle.loader.specs.declared.Tally.{Tally}
 use Rattle.netlist.proofs.ReadLaws.{read-back, read-only}
-use Rattle.netlist.specs.Check.{Read, read, readNetlist, refused}
+use Rattle.netlist.specs.Check.{Read, read, readNetlist, unread}
 use Rattle.netlist.specs.Limits.{maxBytes}
 use Rattle.netlist.specs.Meaning.{andCount}
 use Rattle.netlist.specs.Netlist.{Netlist, bytesOf}
+use Rattle.table.proofs.RefusalLaws.{neither}
 use Rattle.table.specs.Limits.{maxAnds}
 use Rattle.table.specs.Refusals.{Test, firstRefusal}
-use Rattle.truth.proofs.Booleans.{clash}
 use borrow.Author.Tests.{eq-eqb, eqb-true, le-ltb, ltb-false, not-false}
 use lib.Dec.{eqb, ltb}
 use lib.ListN.{length}
@@ -36,7 +35,7 @@ slices-suffice {room} h =
     )
 
 -- Files from which two such netlists are read are accepted.
-pub load-given : {left right : List ℕ} {room : Room} {t : Tally} → Loads left right room t → loadResult left right room ≡ Accepted t
+pub load-given : {left right : List ℕ} {room : Room} {t : Tally} → Loads left right room t → loadResult left right room ≡ accepted t
 unfolding loadResult readResult firstRefusal
 load-given {left} {right} {room} h =
     let d = h .first in
@@ -57,7 +56,7 @@ load-given {left} {right} {room} h =
 
 -- Demand 1: the files of two netlists within the limits, with equal counts and at most 6,144 ANDs, are accepted where there is room.
 pub load-accepts : {d e : Netlist} {room : Room} → Loadable d e → Enough room → length (bytesOf d) ≤ maxBytes → length (bytesOf e) ≤ maxBytes
-    → loadResult (bytesOf d) (bytesOf e) room ≡ Accepted (tallyOf d e)
+    → loadResult (bytesOf d) (bytesOf e) room ≡ accepted (tallyOf d e)
 load-accepts {d} {e} h r left right =
     load-given (
     record {
@@ -92,12 +91,8 @@ none-applied a r (t ∷ ts) apart e = go (t .applies) refl e (none-applied a r t
     go true d e rest = absurd (apart .0 e)
     go false d e rest = ((d, rest e .0), rest e .1)
 
-refusal-apart : {k f n : ℕ} {t : Tally} → Refused k f n ≡ Accepted t → ⊥
+refusal-apart : {k f n : ℕ} {t : Tally} → refused k f n ≡ accepted t → ⊥
 refusal-apart e = let z : _≡_ {A = ℕ} 0 1 = cc in omega arith
-
-neither : (a b : Bool) → a || b ≡ false → (a ≡ false) × (b ≡ false)
-neither true b e = clash refl e
-neither false b e = (refl, e)
 
 counts-agreed : (d e : Netlist) → countsDiffer? d e ≡ false → (d .inputs ≡ e .inputs) × (length (d .outputs) ≡ length (e .outputs))
 unfolding countsDiffer?
@@ -125,18 +120,18 @@ slices-sufficed room table h =
     size = 2 * maxVertices
 
 -- What is accepted is the files of two such netlists.
-pub load-only : (left right : List ℕ) (room : Room) (t : Tally) → loadResult left right room ≡ Accepted t → Loads left right room t
+pub load-only : (left right : List ℕ) (room : Room) (t : Tally) → loadResult left right room ≡ accepted t → Loads left right room t
 unfolding loadResult readResult
 load-only left right room t h =
-    let p = none-applied (readResult room (readNetlist left) (readNetlist right)) (Accepted t) (lengthTests left right) (refusal-apart, (refusal-apart, tt)) h in
+    let p = none-applied (readResult room (readNetlist left) (readNetlist right)) (accepted t) (lengthTests left right) (refusal-apart, (refusal-apart, tt)) h in
     go (readNetlist left) (readNetlist right) refl refl (ltb-false maxBytes (length left) (p .0 .0)) (ltb-false maxBytes (length right) (p .0 .1 .0)) (p .1)
   where
     go : (x y : Read) → readNetlist left ≡ x → readNetlist right ≡ y → length left ≤ maxBytes → length right ≤ maxBytes
-        → readResult room x y ≡ Accepted t → Loads left right room t
-    go (refused k n) y f g l r e = absurd (refusal-apart e)
-    go (read d) (refused k n) f g l r e = absurd (refusal-apart e)
+        → readResult room x y ≡ accepted t → Loads left right room t
+    go (unread k n) y f g l r e = absurd (refusal-apart e)
+    go (read d) (unread k n) f g l r e = absurd (refusal-apart e)
     go (read d) (read c) f g l r e =
-        let q = none-applied (Accepted (tallyOf d c)) (Accepted t) (pairTests d c room) (refusal-apart, (refusal-apart, (refusal-apart, (refusal-apart, tt)))) e in
+        let q = none-applied (accepted (tallyOf d c)) (accepted t) (pairTests d c room) (refusal-apart, (refusal-apart, (refusal-apart, (refusal-apart, tt)))) e in
         let agreed = counts-agreed d c (q .0 .0) in
         record {
           first = d;

@@ -1,7 +1,6 @@
 -- The bench cards on loading, marked P, from the bytes of the files. "a is reference 2, b is 4": inputs 1 and 2, of two.
 use Prim.Native.Nat.{_*_, ℕ}
-use Rattle.loader.specs.Load.{Room, loadResult, maxTable, maxVertices, tableAfter}
-use Rattle.loader.specs.declared.Loaded.the-variants.{Accepted}
+use Rattle.loader.specs.Load.{Room, accepted, loadResult, maxTable, maxVertices, tableAfter}
 use Rattle.netlist.specs.Check.{readNetlist}
 use Rattle.table.specs.Table.{graphOf, outputValue}
 use Rattle.truth.specs.Truth.{Setting}
@@ -39,6 +38,6 @@ tableLeft left right old = tableAfter (loadResult left right room) (readNetlist 
 
 -- "`xor 2 2`: asked 3, folded 3, value false." "`and 2 4` output 6 against `or 3 5` output 7: made 1, found 1"
 pub record Loading : Type 0 where
-  pub xor-tally : loadResult xorFile falseFile room ≡ Accepted (record { asked = 3; folded = 3; found = 0; made = 0 })
+  pub xor-tally : loadResult xorFile falseFile room ≡ accepted (record { asked = 3; folded = 3; found = 0; made = 0 })
   pub xor-value : (old : List ℕ) (s : Setting) → outputValue (graphOf (tableLeft xorFile falseFile old)) 1 0 s ≡ false
-  pub and-or-tally : loadResult andFile orFile room ≡ Accepted (record { asked = 2; folded = 0; found = 1; made = 1 })
+  pub and-or-tally : loadResult andFile orFile room ≡ accepted (record { asked = 2; folded = 0; found = 1; made = 1 })

@@ -4,7 +4,7 @@ use Rattle.loader.specs.Build.{PairBuilt, buildPair}
 use Rattle.loader.specs.declared.Loaded.the-variants.{Accepted, Refused}
 use Rattle.loader.specs.declared.Loaded.{Loaded}
 use Rattle.loader.specs.declared.Tally.{Tally}
-use Rattle.netlist.specs.Check.{Read, read, readNetlist, refused}
+use Rattle.netlist.specs.Check.{Read, read, readNetlist, unread}
 use Rattle.netlist.specs.Limits.{maxBytes}
 use Rattle.netlist.specs.Meaning.{andCount}
 use Rattle.netlist.specs.Netlist.{Netlist}
@@ -32,11 +32,21 @@ maxVertices = 1 + maxInputs + maxAnds
 abbrev pub maxTable : ℕ
 maxTable = 3 + 2 * maxAnds + 2 * maxOutputs
 
+-- An answer: how the ANDs that were asked for ended, or the number, the file and the line of a refusal.
+pub data Answer : Type 0 where
+  accepted : Tally → Answer
+  refused : ℕ → ℕ → ℕ → Answer
+
+-- The paper's number and values for each case of the result.
+abbrev pub answerOf : Loaded → Answer
+answerOf (Accepted t) = accepted t
+answerOf (Refused k f n) = refused k f n
+
 -- "1. The file is longer than 65,536 bytes.", for both files.
-abbrev pub lengthTests : List ℕ → List ℕ → List (Test Loaded)
+abbrev pub lengthTests : List ℕ → List ℕ → List (Test Answer)
 lengthTests left right =
-    record { answer = Refused 1 1 0; applies = ltb maxBytes (length left) }
-    ∷ record { answer = Refused 1 2 0; applies = ltb maxBytes (length right) }
+    record { answer = refused 1 1 0; applies = ltb maxBytes (length left) }
+    ∷ record { answer = refused 1 2 0; applies = ltb maxBytes (length right) }
     ∷ []
 
 -- "7. Input or output counts differ (file 2, line 1, after both files are read)."
@@ -49,12 +59,12 @@ shortSlice? r =
     ltb (r .pairs) (2 * maxVertices) || ltb (r .look) (2 * maxVertices) || ltb (r .literals) (2 * maxVertices) || ltb (r .outputs) (2 * maxVertices)
 
 -- "then 7, 8, 9, 14": "8. The ANDs exceed 6,144. 9. The table is shorter than 12,419 words."
-abbrev pub pairTests : Netlist → Netlist → Room → List (Test Loaded)
+abbrev pub pairTests : Netlist → Netlist → Room → List (Test Answer)
 pairTests d e room =
-    record { answer = Refused 7 2 1; applies = countsDiffer? d e }
-    ∷ record { answer = Refused 8 0 0; applies = ltb maxAnds (andCount (d .gates) + andCount (e .gates)) }
-    ∷ record { answer = Refused 9 0 0; applies = ltb (room .table) maxTable }
-    ∷ record { answer = Refused 14 0 0; applies = shortSlice? room }
+    record { answer = refused 7 2 1; applies = countsDiffer? d e }
+    ∷ record { answer = refused 8 0 0; applies = ltb maxAnds (andCount (d .gates) + andCount (e .gates)) }
+    ∷ record { answer = refused 9 0 0; applies = ltb (room .table) maxTable }
+    ∷ record { answer = refused 14 0 0; applies = shortSlice? room }
     ∷ []
 
 -- "The result carries asked, folded, found and made"
@@ -64,13 +74,13 @@ tallyOf d e =
     record { asked = b .asked; folded = b .folded; found = b .found; made = b .count - (1 + d .inputs) }
 
 -- "then 2 to 6 line by line, first file first"
-unfoldable pub readResult : Room → Read → Read → Loaded
-readResult room (refused k n) e = Refused k 1 n
-readResult room (read d) (refused k n) = Refused k 2 n
-readResult room (read d) (read e) = firstRefusal (Accepted (tallyOf d e)) (pairTests d e room)
+unfoldable pub readResult : Room → Read → Read → Answer
+readResult room (unread k n) e = refused k 1 n
+readResult room (read d) (unread k n) = refused k 2 n
+readResult room (read d) (read e) = firstRefusal (accepted (tallyOf d e)) (pairTests d e room)
 
 -- "Load tests 1 for both files, then 2 to 6 line by line, first file first, then 7, 8, 9, 14, and names file and line"
-unfoldable pub loadResult : List ℕ → List ℕ → Room → Loaded
+unfoldable pub loadResult : List ℕ → List ℕ → Room → Answer
 loadResult left right room = firstRefusal (readResult room (readNetlist left) (readNetlist right)) (lengthTests left right)
 
 -- "The lent table of 32-bit words then holds: inputs; made; outputs; two words a made vertex; the first file's output references; the
@@ -88,21 +98,8 @@ abbrev pub loadedGraph : Netlist → Netlist → List ℕ → Graph
 loadedGraph d e old = graphOf (tableOf d e old)
 
 -- The table after a load: unchanged after a refusal.
-unfoldable pub tableAfter : Loaded → Read → Read → List ℕ → List ℕ
-tableAfter (Accepted t) (read d) (read e) old = tableOf d e old
-tableAfter (Accepted t) (read d) (refused k n) old = old
-tableAfter (Accepted t) (refused k n) e old = old
-tableAfter (Refused k f n) d e old = old
-
--- The paper's number, file and line of an answer: 0 each where it is accepted.
-abbrev pub numberOf : Loaded → ℕ
-numberOf (Accepted t) = 0
-numberOf (Refused k f n) = k
-
-abbrev pub fileOf : Loaded → ℕ
-fileOf (Accepted t) = 0
-fileOf (Refused k f n) = f
-
-abbrev pub lineOf : Loaded → ℕ
-lineOf (Accepted t) = 0
-lineOf (Refused k f n) = n
+unfoldable pub tableAfter : Answer → Read → Read → List ℕ → List ℕ
+tableAfter (accepted t) (read d) (read e) old = tableOf d e old
+tableAfter (accepted t) (read d) (unread k n) old = old
+tableAfter (accepted t) (unread k n) e old = old
+tableAfter (refused k f n) d e old = old

@@ -1,69 +1,69 @@
 -- The check of records: a netlist within its limits is accepted, and what is accepted is the records of such a netlist.
 use Prim.Native.Nat.{_*_, _+_, _<_, suc, ℕ}
-use Rattle.netlist.proofs.StepLaws.{GateFits, Limited, OutputDue, finish-all, finish-cases, gate-cases, gate-next, header-cases, header-next, output-cases, output-next, summary}
-use Rattle.netlist.specs.Accepted.{summaryOf}
-use Rattle.netlist.specs.Check.{andThen, andsOf, body, checkFrom, finish}
+use Rattle.netlist.proofs.StepLaws.{GateFits, Limited, OutputDue, andThen, check-next, check-step, finish-all, finish-cases, gate-cases, gate-next, header-cases, header-next, output-cases, output-next}
+use Rattle.netlist.specs.Accepted.{countsIn}
+use Rattle.netlist.specs.Check.{Answer, Counts, accepted, andsOf, body, checkFrom, due?, finish, formed?, header?, more?, refused}
 use Rattle.netlist.specs.Limits.{edition}
 use Rattle.netlist.specs.Meaning.{andCount}
 use Rattle.netlist.specs.Netlist as netlist
-use Rattle.netlist.specs.Netlist.{AllBelow, Downward, Netlist, Within, bodyRecords, gateRecord, netlistRecords}
+use Rattle.netlist.specs.Netlist.{AllBelow, Downward, Netlist, Within, bodyRecords, gateRecord, headerRecord, netlistRecords}
 use Rattle.netlist.specs.declared.check.Body.{Body}
-use Rattle.netlist.specs.declared.check.Checked.the-variants.{Accepted, Refused}
-use Rattle.netlist.specs.declared.check.Checked.{Checked}
 use Rattle.netlist.specs.declared.check.Due.the-variants.{First, Later}
-use Rattle.netlist.specs.declared.check.Summary.{Summary}
 use Rattle.netlist.specs.declared.records.Operation.{Operation}
 use Rattle.netlist.specs.declared.records.Record.the-variants.{Gate, Header, Malformed, Output}
 use Rattle.netlist.specs.declared.records.Record.{Record}
+use Rattle.table.specs.Refusals.{firstRefusal}
 use lib.ListN.{length}
 use mathlib.Core.List.{List, [], _++_, _∷_, map}
-use mathlib.Core.Path.{_≡_, ap, refl}
+use mathlib.Core.Path.{_≡_, ap, refl, sym, _∙_}
 use native.Mathlib.Omega.{arith}
 
 -- What is due after line 1, and what an accepted file has at its end.
 abbrev counts : ℕ → ℕ → ℕ → ℕ → ℕ → ℕ → Body
 counts i g o k j a = record { inputs = i; gates = g; outputs = o; gate = k; output = j; ands = a }
 
-abbrev total : ℕ → ℕ → ℕ → ℕ → ℕ → Checked
-total start i g o a = Accepted (record { inputs = i; gates = g; outputs = o; ands = a; start = start })
+abbrev total : ℕ → ℕ → ℕ → ℕ → Answer
+total i g o a = accepted (record { inputs = i; gates = g; outputs = o; ands = a })
 
-module _ (start i g o : ℕ) where
+module _ (i g o : ℕ) where
   -- The outputs that are left are accepted.
   outputs-accepted :
       (n j a : ℕ) {os : List ℕ} → AllBelow (2 * (1 + i + g)) os → j + length os ≡ o
-      → checkFrom start n (body i g o g j a) (map Output os) ≡ total start i g o a
+      → checkFrom n (body i g o g j a) (map Output os) ≡ total i g o a
   unfolding checkFrom
-  outputs-accepted n j a netlist.AllBelow.none h = finish-all start n (counts i g o g j a) (record { gates = refl; outputs = omega arith })
-  outputs-accepted n j a (netlist.AllBelow.next {r = r} l b) h =
-      rw (output-next (counts i g o g j a) r (record { gates = refl; room = omega arith }) l) (outputs-accepted (n + 1) (j + 1) a b (omega arith))
+  outputs-accepted n j a netlist.AllBelow.none h = finish-all n (counts i g o g j a) (record { gates = refl; outputs = omega arith })
+  outputs-accepted n j a (netlist.AllBelow.next {r = r} {rs = rs} l b) h =
+      check-next n (body i g o g j a) (body i g o g (j + 1) a) (Output r) (map Output rs)
+      (output-next (counts i g o g j a) r (record { gates = refl; room = omega arith }) l)
+      ∙ outputs-accepted (n + 1) (j + 1) a b (omega arith)
 
   -- The gates that are left, and then the outputs.
   gates-accepted :
       (n k a : ℕ) {v : ℕ} {gs : List netlist.Gate} {os : List ℕ} → Downward v gs → v ≡ 1 + i + k → k + length gs ≡ g → AllBelow (2 * (1 + i + g)) os → length os ≡ o
-      → checkFrom start n (body i g o k 0 a) (map gateRecord gs ++ map Output os) ≡ total start i g o (a + andCount gs)
+      → checkFrom n (body i g o k 0 a) (map gateRecord gs ++ map Output os) ≡ total i g o (a + andCount gs)
   unfolding checkFrom andCount
   gates-accepted n k a netlist.Downward.none z e b f =
       let y : a + 0 ≡ a = omega arith in
       let x : k ≡ g = omega arith in
       rw (y, x) (outputs-accepted n 0 a b (omega arith))
-  gates-accepted n k a (netlist.Downward.gate {g = x} {gs = gs} p q d) z e b f =
-      rw (gate-next (counts i g o k 0 a) (x .op) (x .p) (x .q) (record { room = omega arith; left = omega arith; right = omega arith }))
-      (let y : a + (andsOf (x .op) + andCount gs) ≡ a + andsOf (x .op) + andCount gs = omega arith in
+  gates-accepted n k a {os = os} (netlist.Downward.gate {g = x} {gs = gs} p q d) z e b f =
+      check-next n (body i g o k 0 a) (body i g o (k + 1) 0 (a + andsOf (x .op))) (gateRecord x) (map gateRecord gs ++ map Output os)
+      (gate-next (counts i g o k 0 a) (x .op) (x .p) (x .q) (record { room = omega arith; left = omega arith; right = omega arith }))
+      ∙ (let y : a + (andsOf (x .op) + andCount gs) ≡ a + andsOf (x .op) + andCount gs = omega arith in
       rw y (gates-accepted (n + 1) (k + 1) (a + andsOf (x .op)) d (omega arith) (omega arith) b f))
 
 -- A netlist within its limits is accepted, with its counts.
-pub records-accepted :
-    (start : ℕ) {d : Netlist} → Within d
-    → checkFrom start 1 First (netlistRecords d) ≡ Accepted (summaryOf start d)
-unfolding checkFrom netlistRecords bodyRecords
-records-accepted start {d} w =
+pub records-accepted : {d : Netlist} → Within d → checkFrom 1 First (netlistRecords d) ≡ accepted (countsIn d)
+unfolding netlistRecords bodyRecords
+records-accepted {d} w =
     let z : 0 + andCount (d .gates) ≡ andCount (d .gates) = omega arith in
-    rw (header-next edition (d .inputs) (length (d .gates)) (length (d .outputs)) refl
+    check-next 1 First (body (d .inputs) (length (d .gates)) (length (d .outputs)) 0 0 0) (headerRecord d) (bodyRecords d)
+    (header-next edition (d .inputs) (length (d .gates)) (length (d .outputs)) refl
     (record { inputs = w .inputs; gates = w .gates; some = w .some; outputs = w .outputs }))
-    (rw z at (gates-accepted start (d .inputs) (length (d .gates)) (length (d .outputs)) 2 0 0 (w .downward) (omega arith) (omega arith) (w .below) refl))
+    ∙ (rw z at (gates-accepted (d .inputs) (length (d .gates)) (length (d .outputs)) 2 0 0 (w .downward) (omega arith) (omega arith) (w .below) refl))
 
 -- The gates and outputs that are left, and what the file has with them.
-record Left (start : ℕ) (b : Body) (rs : List Record) (s : Summary) : Type 0 where
+record Left (b : Body) (rs : List Record) (s : Counts) : Type 0 where
   gates : List netlist.Gate
   outputs : List ℕ
   records : rs ≡ map gateRecord gates ++ map Output outputs
@@ -71,25 +71,25 @@ record Left (start : ℕ) (b : Body) (rs : List Record) (s : Summary) : Type 0 w
   output-count : b .output + length outputs ≡ b .outputs
   downward : Downward (1 + b .inputs + b .gate) gates
   below : AllBelow (2 * (1 + b .inputs + b .gates)) outputs
-  sums : s ≡ summary start (counts (b .inputs) (b .gates) (b .outputs) (b .gates) (b .outputs) (b .ands + andCount gates))
+  sums : s ≡ record { inputs = b .inputs; gates = b .gates; outputs = b .outputs; ands = b .ands + andCount gates }
 
 -- A refusal accepts nothing.
-refusal : {k n : ℕ} {s : Summary} {A : Type 0} → Refused k n ≡ Accepted s → A
+refusal : {k n : ℕ} {s : Counts} {A : Type 0} → refused k n ≡ accepted s → A
 refusal {k} {n} {s} e = let z : _≡_ {A = ℕ} 0 1 = cc in absurd (omega arith)
 
-accepted-is : {s t : Summary} → Accepted s ≡ Accepted t → t ≡ s
+accepted-is : {s t : Counts} → accepted s ≡ accepted t → t ≡ s
 accepted-is e = cc
 
 no-gates : (gs : List netlist.Gate) (k : ℕ) → k + length gs ≡ k → gs ≡ []
 no-gates [] k h = refl
 no-gates (g ∷ gs) k h = absurd (omega arith)
 
-module _ (start : ℕ) (s : Summary) where
+module _ (s : Counts) where
   -- At the end nothing is left.
-  left-none : (n : ℕ) (b : Body) → finish start n (Later b) ≡ Accepted s → Left start b [] s
+  left-none : (n : ℕ) (b : Body) → finish n (Later b) ≡ accepted s → Left b [] s
   unfolding andCount
   left-none n b =
-      finish-cases start n b (λ c. c ≡ Accepted s → Left start b [] s) (λ h. refusal)
+      finish-cases n b (λ c. c ≡ accepted s → Left b [] s) (λ h. refusal)
       (λ h e.
       record {
         gates = [];
@@ -105,8 +105,8 @@ module _ (start : ℕ) (s : Summary) where
   -- A good gate line, and what is left after it.
   gate-left :
       (b : Body) (op : Operation) (p q : ℕ) (rs : List Record) → GateFits b p q
-      → Left start (counts (b .inputs) (b .gates) (b .outputs) (b .gate + 1) (b .output) (b .ands + andsOf op)) rs s
-      → Left start b (Gate op p q ∷ rs) s
+      → Left (counts (b .inputs) (b .gates) (b .outputs) (b .gate + 1) (b .output) (b .ands + andsOf op)) rs s
+      → Left b (Gate op p q ∷ rs) s
   unfolding andCount
   gate-left b op p q rs f t =
       let v : 1 + b .inputs + (b .gate + 1) ≡ suc (1 + b .inputs + b .gate) = omega arith in
@@ -125,8 +125,8 @@ module _ (start : ℕ) (s : Summary) where
   -- A good output line, and what is left after it.
   output-left :
       (b : Body) (r : ℕ) (rs : List Record) → OutputDue b → r < 2 * (1 + b .inputs + b .gates)
-      → Left start (counts (b .inputs) (b .gates) (b .outputs) (b .gate) (b .output + 1) (b .ands)) rs s
-      → Left start b (Output r ∷ rs) s
+      → Left (counts (b .inputs) (b .gates) (b .outputs) (b .gate) (b .output + 1) (b .ands)) rs s
+      → Left b (Output r ∷ rs) s
   unfolding andCount
   output-left b r rs due h t =
       let nil : t .gates ≡ [] = no-gates (t .gates) (b .gate) (omega (arith, t .gate-count, due .gates)) in
@@ -142,33 +142,33 @@ module _ (start : ℕ) (s : Summary) where
       }
 
   -- What is left where the check of it accepts.
-  left : (rs : List Record) (n : ℕ) (b : Body) → checkFrom start n (Later b) rs ≡ Accepted s → Left start b rs s
-  unfolding checkFrom
+  left : (rs : List Record) (n : ℕ) (b : Body) → checkFrom n (Later b) rs ≡ accepted s → Left b rs s
+  unfolding checkFrom firstRefusal formed? due?
   left [] n b e = left-none n b e
   left (Malformed ∷ rs) n b e = refusal e
   left (Header x i g o ∷ rs) n b e = refusal e
   left (Gate op p q ∷ rs) n b e =
       gate-cases b op p q
-      (λ c. andThen n c (λ next. checkFrom start (n + 1) next rs) ≡ Accepted s → Left start b (Gate op p q ∷ rs) s)
+      (λ c. andThen n c (λ next. checkFrom (n + 1) next rs) ≡ accepted s → Left b (Gate op p q ∷ rs) s)
       (λ h. refusal) (λ h k. refusal)
       (λ f g. gate-left b op p q rs f (left rs (n + 1) (counts (b .inputs) (b .gates) (b .outputs) (b .gate + 1) (b .output) (b .ands + andsOf op)) g))
-      e
+      (sym (check-step n (Later b) (Gate op p q) rs) ∙ e)
   left (Output r ∷ rs) n b e =
       output-cases b r
-      (λ c. andThen n c (λ next. checkFrom start (n + 1) next rs) ≡ Accepted s → Left start b (Output r ∷ rs) s)
+      (λ c. andThen n c (λ next. checkFrom (n + 1) next rs) ≡ accepted s → Left b (Output r ∷ rs) s)
       (λ h. refusal) (λ h k. refusal)
       (λ d h g. output-left b r rs d h (left rs (n + 1) (counts (b .inputs) (b .gates) (b .outputs) (b .gate) (b .output + 1) (b .ands)) g))
-      e
+      (sym (check-step n (Later b) (Output r) rs) ∙ e)
 
   -- The netlist of records that are accepted.
   pub record Taken (rs : List Record) : Type 0 where
     pub held : Netlist
     pub records : rs ≡ netlistRecords held
     pub within : Within held
-    pub sums : s ≡ summaryOf start held
+    pub sums : s ≡ countsIn held
 
   -- A good line 1, and what is left after it.
-  header-taken : (i g o : ℕ) (rs : List Record) → Limited i g o → Left start (counts i g o 0 0 0) rs s → Taken (Header edition i g o ∷ rs)
+  header-taken : (i g o : ℕ) (rs : List Record) → Limited i g o → Left (counts i g o 0 0 0) rs s → Taken (Header edition i g o ∷ rs)
   unfolding netlistRecords bodyRecords
   header-taken i g o rs l t =
       let eg : g ≡ length (t .gates) = omega (arith, t .gate-count) in
@@ -191,14 +191,14 @@ module _ (start : ℕ) (s : Summary) where
       }
 
   -- Records that are accepted are those of a netlist within its limits.
-  pub taken : (rs : List Record) → checkFrom start 1 First rs ≡ Accepted s → Taken rs
-  unfolding checkFrom finish
+  pub taken : (rs : List Record) → checkFrom 1 First rs ≡ accepted s → Taken rs
+  unfolding checkFrom finish firstRefusal formed? header? more?
   taken [] e = refusal e
   taken (Malformed ∷ rs) e = refusal e
   taken (Gate op p q ∷ rs) e = refusal e
   taken (Output r ∷ rs) e = refusal e
   taken (Header x i g o ∷ rs) e =
-      header-cases x i g o (λ c. andThen 1 c (λ next. checkFrom start (1 + 1) next rs) ≡ Accepted s → Taken (Header x i g o ∷ rs))
+      header-cases x i g o (λ c. andThen 1 c (λ next. checkFrom (1 + 1) next rs) ≡ accepted s → Taken (Header x i g o ∷ rs))
       (λ h. refusal) (λ h k. refusal)
       (λ h l f. rw h (header-taken i g o rs l (left rs 2 (counts i g o 0 0 0) f)))
-      e
+      (sym (check-step 1 First (Header x i g o) rs) ∙ e)

@@ -1,13 +1,12 @@
 -- What holds while a file is passed line by line: what is ahead decides the answer.
 use Prim.Native.Nat.{_+_, _<_, _≤_, ℕ}
 use Rattle.netlist.proofs.LineLaws.{formed-ended, records-ahead, records-end}
-use Rattle.netlist.proofs.StepLaws.{ands-few, gate-cases, header-cases, output-cases}
-use Rattle.netlist.specs.Check.{checkFile, checkFrom, finish, stepOf}
+use Rattle.netlist.proofs.StepLaws.{andThen, ands-few, check-step, gate-cases, header-cases, output-cases}
+use Rattle.netlist.specs.Check.{checkFile, checkFrom, due?, finish, formed?, header?, refused}
 use Rattle.netlist.specs.Limits.{maxGates}
-use Rattle.netlist.specs.Passing.{Counted, Held, at-first, at-later, lineDue, lineRecord}
+use Rattle.netlist.specs.Passing.{Counted, Held, at-first, at-later, lineDue, lineRecord, stepOf}
 use Rattle.netlist.specs.Records.{fileRecords}
 use Rattle.netlist.specs.declared.check.Body.{Body}
-use Rattle.netlist.specs.declared.check.Checked.the-variants.{Refused}
 use Rattle.netlist.specs.declared.check.Due.the-variants.{First, Later}
 use Rattle.netlist.specs.declared.check.Due.{Due}
 use Rattle.netlist.specs.declared.check.Stepped.the-variants.{Next, Refuse}
@@ -15,9 +14,10 @@ use Rattle.netlist.specs.declared.check.Stepped.{Stepped}
 use Rattle.netlist.specs.declared.records.Record.the-variants.{Gate, Header, Malformed, Output}
 use Rattle.netlist.specs.declared.records.Record.{Record}
 use Rattle.table.specs.Limits.{maxOutputs}
+use Rattle.table.specs.Refusals.{firstRefusal}
 use Rattle.text.specs.Split.{upTo}
 use lib.ListN.{drop, length}
-use mathlib.Core.List.{List, _∷_}
+use mathlib.Core.List.{List}
 use mathlib.Core.Path.{_≡_, ap, refl, subst, sym, _∙_}
 use native.Mathlib.Omega.{arith}
 
@@ -41,6 +41,7 @@ refusal : {k : ℕ} {due : Due} {A : Type 0} → Refuse k ≡ Next due → A
 refusal {k} {due} e = let z : _≡_ {A = ℕ} 0 1 = cc in absurd (omega arith)
 
 malformed-refused : (due : Due) → stepOf due Malformed ≡ Refuse 2
+unfolding stepOf firstRefusal formed?
 malformed-refused First = refl
 malformed-refused (Later b) = refl
 
@@ -49,7 +50,7 @@ next-is e = cc
 
 -- A good line keeps the counts within their limits, and the next line's number is one more.
 keeps : {due next : Due} (r : Record) → Held due → stepOf due r ≡ Next next → Kept (lineDue due) next
-unfolding lineDue
+unfolding lineDue stepOf firstRefusal formed? header? due?
 keeps {next = next} Malformed at-first e = refusal e
 keeps {next = next} (Gate op p q) at-first e = refusal e
 keeps {next = next} (Output r) at-first e = refusal e
@@ -115,30 +116,33 @@ pub stepped : (due : Due) {r line : Record} {t u : Stepped} → t ≡ stepOf due
 stepped due e f g = sym (e ∙ ap (stepOf due) f) ∙ g
 
 -- The line that starts at a place is due, and from there on the check gives the file's answer.
-pub record Ahead (file : List ℕ) (start at line : ℕ) (due : Due) : Type 0 where
+pub record Ahead (file : List ℕ) (at line : ℕ) (due : Due) : Type 0 where
   pub inside : at ≤ length file
   pub held : Held due
   pub number : line ≡ lineDue due
-  pub ahead : checkFrom start line due (fileRecords (drop at file)) ≡ checkFile file
+  pub ahead : checkFrom line due (fileRecords (drop at file)) ≡ checkFile file
 
 -- It begins at line 1.
-pub ahead-begins : (file line : List ℕ) → line ≡ upTo 10 file → Ahead file (length line + 1) 0 1 First
+pub ahead-begins : (file : List ℕ) → Ahead file 0 1 First
 unfolding checkFile lineDue
-ahead-begins file line e = record { inside = omega arith; held = at-first; number = refl; ahead = rw e refl }
+ahead-begins file = record { inside = omega arith; held = at-first; number = refl; ahead = refl }
 
-module _ {file : List ℕ} {start at line : ℕ} {due : Due} (a : Ahead file start at line due) where
+module _ {file : List ℕ} {at line : ℕ} {due : Due} (a : Ahead file at line due) where
   -- No bytes are left.
-  pub ahead-ends : length file ≤ at → finish start line due ≡ checkFile file
+  pub ahead-ends : length file ≤ at → finish line due ≡ checkFile file
   unfolding checkFrom
   ahead-ends h = rw (records-end file at h) at (a .ahead)
 
   module _ (more : at < length file) where
-    unrolled : checkFrom start line due (lineRecord (drop at file) ∷ fileRecords (drop (at + length (upTo 10 (drop at file)) + 1) file)) ≡ checkFile file
-    unrolled = rw (records-ahead file at more) at (a .ahead)
+    rest : List Record
+    rest = fileRecords (drop (at + length (upTo 10 (drop at file)) + 1) file)
+
+    unrolled : andThen line (stepOf due (lineRecord (drop at file))) (λ next. checkFrom (line + 1) next rest) ≡ checkFile file
+    unfolding rest
+    unrolled = sym (check-step line due (lineRecord (drop at file)) rest) ∙ (rw (records-ahead file at more) at (a .ahead))
 
     -- The line is refused.
-    pub ahead-refuses : (k : ℕ) → stepOf due (lineRecord (drop at file)) ≡ Refuse k → Refused k line ≡ checkFile file
-    unfolding checkFrom
+    pub ahead-refuses : (k : ℕ) → stepOf due (lineRecord (drop at file)) ≡ Refuse k → refused k line ≡ checkFile file
     ahead-refuses k e = rw e at unrolled
 
     module _ (next : Due) (e : stepOf due (lineRecord (drop at file)) ≡ Next next) where
@@ -147,8 +151,8 @@ module _ {file : List ℕ} {start at line : ℕ} {due : Due} (a : Ahead file sta
       ahead-ended = formed-ended file at (λ m. refusal (sym (malformed-refused due) ∙ (rw m at e)))
 
       -- The line is passed.
-      pub ahead-next : Ahead file start (at + length (upTo 10 (drop at file)) + 1) (line + 1) next
-      unfolding checkFrom
+      pub ahead-next : Ahead file (at + length (upTo 10 (drop at file)) + 1) (line + 1) next
+      unfolding rest
       ahead-next =
           let k = keeps (lineRecord (drop at file)) (a .held) e in
           record { inside = omega (arith, ahead-ended); held = k .held; number = omega (arith, k .number, a .number); ahead = rw e at unrolled }

@@ -1,21 +1,20 @@
 -- A netlist within its limits is read back from its bytes, and whatever is read is the bytes of what it gives.
 use Prim.Native.Nat.{_+_, ℕ}
-use Rattle.netlist.proofs.CheckLaws.{records-accepted, taken}
+use Rattle.netlist.proofs.CheckLaws.{Taken, records-accepted, taken}
 use Rattle.netlist.proofs.FileLaws.{bytes-read, file-written, within-spelled}
 use Rattle.netlist.proofs.LineLaws.{line-ahead}
-use Rattle.netlist.specs.Accepted.{Holds, summaryOf}
-use Rattle.netlist.specs.Check.{body, checkFile, gatesIn, netlistIn, outputsIn, read, readBy, readNetlist, refused}
+use Rattle.netlist.specs.Accepted.{Holds, countsIn, summaryOf}
+use Rattle.netlist.specs.Check.{Answer, Counts, accepted, answerOf, body, checkFile, gatesIn, netlistIn, outputsIn, read, readBy, readNetlist, refused, unread}
 use Rattle.netlist.specs.Netlist as netlist
 use Rattle.netlist.specs.Netlist.{Netlist, Within, bodyRecords, bytesOf, gateRecord, headerRecord, linesBytes, netlistRecords}
 use Rattle.netlist.specs.Records.{fileRecords}
-use Rattle.netlist.specs.declared.check.Checked.the-variants.{Accepted, Refused}
-use Rattle.netlist.specs.declared.check.Checked.{Checked}
+use Rattle.netlist.specs.declared.check.Checked.the-variants.{Accepted}
 use Rattle.netlist.specs.declared.check.Summary.{Summary}
 use Rattle.netlist.specs.declared.records.Record.the-variants.{Gate, Malformed, Output}
 use Rattle.text.specs.Split.{upTo}
 use lib.ListN.{length}
 use mathlib.Core.List.{List, [], _++_, _∷_, map}
-use mathlib.Core.Path.{_≡_, ap, ap₂, refl, subst, subst⁻¹, _∙_}
+use mathlib.Core.Path.{_≡_, ap, ap₂, refl, subst, subst⁻¹, sym, _∙_}
 use native.Mathlib.Omega.{arith}
 
 gates-in : (gs : List netlist.Gate) (os : List ℕ) → gatesIn (map gateRecord gs ++ map Output os) ≡ gs
@@ -40,9 +39,9 @@ header-formed d e = let z : _≡_ {A = ℕ} 0 1 = cc in omega arith
 
 -- A file of the records of a netlist within its limits is accepted, is read as that netlist, and is its bytes.
 module _ {d : Netlist} (w : Within d) (bytes : List ℕ) (e : fileRecords bytes ≡ netlistRecords d) where
-  pub records-checked : checkFile bytes ≡ Accepted (summaryOf (length (upTo 10 bytes) + 1) d)
+  pub records-checked : checkFile bytes ≡ accepted (countsIn d)
   unfolding checkFile
-  records-checked = rw e (records-accepted (length (upTo 10 bytes) + 1) w)
+  records-checked = rw e (records-accepted w)
 
   records-read : readNetlist bytes ≡ read d
   unfolding readNetlist readBy
@@ -68,30 +67,42 @@ pub read-back : (d : Netlist) → Within d → readNetlist (bytesOf d) ≡ read 
 unfolding bytesOf
 read-back d w = records-read w (linesBytes (netlistRecords d)) (bytes-read (within-spelled w))
 
--- An accepted file holds a netlist, with the counts that the check gives.
-pub accepted : (bytes : List ℕ) (s : Summary) → checkFile bytes ≡ Accepted s → Holds bytes s (netlistIn (s .inputs) (fileRecords bytes))
+-- An accepted file is the records of a netlist within its limits, with the counts that the check gives.
+checked : (bytes : List ℕ) (c : Counts) → checkFile bytes ≡ accepted c → Taken c (fileRecords bytes)
 unfolding checkFile
-accepted bytes s e =
-    let t = taken (length (upTo 10 bytes) + 1) s (fileRecords bytes) e in
-    let i : s .inputs ≡ t .held .inputs = ap (λ (x : Summary). x .inputs) (t .sums) in
+checked bytes c e = taken c (fileRecords bytes) e
+
+-- So it holds that netlist.
+pub accepted-holds : (bytes : List ℕ) (s : Summary) → checkFile bytes ≡ answerOf (Accepted s) → s .start ≡ length (upTo 10 bytes) + 1
+    → Holds bytes s (netlistIn (s .inputs) (fileRecords bytes))
+accepted-holds bytes s e at =
+    let t = checked bytes _ e in
+    let i : s .inputs ≡ t .held .inputs = ap (λ (x : Counts). x .inputs) (t .sums) in
     let d : netlistIn (s .inputs) (fileRecords bytes) ≡ t .held = ap₂ netlistIn i (t .records) ∙ netlist-in (t .held) in
-    subst⁻¹ (Holds bytes s) d
-    (subst⁻¹ (λ (x : Summary). Holds bytes x (t .held)) (t .sums) (records-hold (t .within) bytes (t .records)))
+    let sums : s ≡ summaryOf (length (upTo 10 bytes) + 1) (t .held) = summed at (t .sums) in
+    subst⁻¹ (Holds bytes s) d (subst⁻¹ (λ (x : Summary). Holds bytes x (t .held)) sums (records-hold (t .within) bytes (t .records)))
+  where
+    summed : {n : ℕ} {c : Counts} → s .start ≡ n
+        → record { inputs = s .inputs; gates = s .gates; outputs = s .outputs; ands = s .ands } ≡ c
+        → s ≡ record { inputs = c .inputs; gates = c .gates; outputs = c .outputs; ands = c .ands; start = n }
+    summed f g = rw (← f, ← g) refl
 
 -- What is read holds the netlist that is given.
 pub read-holds : (bytes : List ℕ) (d : Netlist) → readNetlist bytes ≡ read d → Holds bytes (summaryOf (length (upTo 10 bytes) + 1) d) d
 unfolding readNetlist readBy
 read-holds bytes d e = go (checkFile bytes) refl e
   where
-    go : (c : Checked) → checkFile bytes ≡ c → readBy c (fileRecords bytes) ≡ read d → Holds bytes (summaryOf (length (upTo 10 bytes) + 1) d) d
-    go (Refused k n) h f = let z : _≡_ {A = ℕ} 0 1 = cc in absurd (omega arith)
-    go (Accepted s) h f =
-        let is : netlistIn (s .inputs) (fileRecords bytes) ≡ d = cc in
-        let holds : Holds bytes s d = subst (Holds bytes s) is (accepted bytes s h) in
-        records-hold (holds .within) bytes (holds .records)
+    go : (c : Answer) → checkFile bytes ≡ c → readBy c (fileRecords bytes) ≡ read d → Holds bytes (summaryOf (length (upTo 10 bytes) + 1) d) d
+    go (refused k n) h f = let z : _≡_ {A = ℕ} 0 1 = cc in absurd (omega arith)
+    go (accepted c) h f =
+        let t = checked bytes c h in
+        let i : c .inputs ≡ t .held .inputs = ap (λ (x : Counts). x .inputs) (t .sums) in
+        let is : netlistIn (c .inputs) (fileRecords bytes) ≡ d = cc in
+        let held : t .held ≡ d = sym (ap₂ netlistIn i (t .records) ∙ netlist-in (t .held)) ∙ is in
+        subst (λ (x : Netlist). Holds bytes (summaryOf (length (upTo 10 bytes) + 1) x) x) held (records-hold (t .within) bytes (t .records))
 
 -- It was accepted.
-pub read-accepted : (bytes : List ℕ) (d : Netlist) → readNetlist bytes ≡ read d → checkFile bytes ≡ Accepted (summaryOf (length (upTo 10 bytes) + 1) d)
+pub read-accepted : (bytes : List ℕ) (d : Netlist) → readNetlist bytes ≡ read d → checkFile bytes ≡ accepted (countsIn d)
 read-accepted bytes d e = let h = read-holds bytes d e in records-checked (h .within) bytes (h .records)
 
 -- Whatever is read is the bytes of what it gives, which keeps the limits.
@@ -99,6 +110,6 @@ pub read-only : (bytes : List ℕ) (d : Netlist) → readNetlist bytes ≡ read 
 read-only bytes d e = let h = read-holds bytes d e in (h .file, h .within)
 
 -- A refusal is the same in both.
-pub read-refused : (bytes : List ℕ) (k n : ℕ) → checkFile bytes ≡ Refused k n → readNetlist bytes ≡ refused k n
+pub read-refused : (bytes : List ℕ) (k n : ℕ) → checkFile bytes ≡ refused k n → readNetlist bytes ≡ unread k n
 unfolding readNetlist readBy
 read-refused bytes k n e = rw e refl

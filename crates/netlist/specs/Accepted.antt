@@ -1,6 +1,6 @@
 -- What an accepted file holds.
 use Prim.Native.Nat.{_+_, _≤_, ℕ}
-use Rattle.netlist.specs.Check.{read, readNetlist}
+use Rattle.netlist.specs.Check.{Counts, read, readNetlist}
 use Rattle.netlist.specs.Meaning.{andCount}
 use Rattle.netlist.specs.Netlist.{Netlist, Within, bodyRecords, bytesOf, netlistRecords}
 use Rattle.netlist.specs.Records.{fileRecords}
@@ -10,7 +10,11 @@ use lib.ListN.{drop, length}
 use mathlib.Core.List.{List}
 use mathlib.Core.Path.{_≡_}
 
--- The counts of a netlist whose gate lines start at a place.
+-- The counts of a netlist.
+abbrev pub countsIn : Netlist → Counts
+countsIn d = record { inputs = d .inputs; gates = length (d .gates); outputs = length (d .outputs); ands = andCount (d .gates) }
+
+-- The same with the place at which the gate lines start.
 abbrev pub summaryOf : ℕ → Netlist → Summary
 summaryOf start d =
     record { inputs = d .inputs; gates = length (d .gates); outputs = length (d .outputs); ands = andCount (d .gates); start = start }

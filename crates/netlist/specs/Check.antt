@@ -9,17 +9,14 @@ use Rattle.netlist.specs.declared.check.Checked.the-variants.{Accepted, 
 use Rattle.netlist.specs.declared.check.Checked.{Checked}
 use Rattle.netlist.specs.declared.check.Due.the-variants.{First, Later}
 use Rattle.netlist.specs.declared.check.Due.{Due}
-use Rattle.netlist.specs.declared.check.Stepped.the-variants.{Next, Refuse}
-use Rattle.netlist.specs.declared.check.Stepped.{Stepped}
 use Rattle.netlist.specs.declared.records.Operation.the-variants.{And, Or, Xor}
 use Rattle.netlist.specs.declared.records.Operation.{Operation}
 use Rattle.netlist.specs.declared.records.Record.the-variants.{Gate, Header, Malformed, Output}
 use Rattle.netlist.specs.declared.records.Record.{Record}
 use Rattle.table.specs.Limits.{maxInputs, maxOutputs}
-use Rattle.text.specs.Split.{upTo}
+use Rattle.table.specs.Refusals.{Test, firstRefusal}
 use lib.Dec.{eqb, leb, ltb}
-use lib.ListN.{length}
-use mathlib.Core.Bool.{_&&_, cond}
+use mathlib.Core.Bool.{Bool, _&&_, cond, false, not, true}
 use mathlib.Core.List.{List, [], _∷_}
 
 -- "`and` and `or` stand for one AND each", "`xor` stands for three ANDs"
@@ -28,85 +25,134 @@ andsOf And = 1
 andsOf Or = 1
 andsOf Xor = 3
 
--- What follows line 1: gates and outputs are the counts of line 1; gate and output the numbers of those read so far.
+-- "2. The line is not an N, G or O record of this layout or has no end byte.": whether it is one.
+unfoldable pub formed? : Record → Bool
+formed? Malformed = false
+formed? (Header e i g o) = true
+formed? (Gate op p q) = true
+formed? (Output r) = true
+
+-- "5. The line is .. not of the kind due there": whether it is the header that is due in line 1.
+unfoldable pub header? : Record → Bool
+header? (Header e i g o) = true
+header? (Gate op p q) = false
+header? (Output r) = false
+header? Malformed = false
+
+-- "3. The edition is not 1.": whether it is.
+unfoldable pub known? : Record → Bool
+known? (Header e i g o) = eqb e edition
+known? (Gate op p q) = false
+known? (Output r) = false
+known? Malformed = false
+
+-- "4. A count in line 1 is beyond its limit.": whether none is.
+unfoldable pub limited? : Record → Bool
+limited? (Header e i g o) = leb i maxInputs && leb g maxGates && leb 1 o && leb o maxOutputs
+limited? (Gate op p q) = false
+limited? (Output r) = false
+limited? Malformed = false
+
+-- "Within line 1 the order is 2, 5, 3, 4"
+abbrev pub firstTests : Record → List (Test ℕ)
+firstTests r =
+    record { answer = 2; applies = not (formed? r) }
+    ∷ record { answer = 5; applies = not (header? r) }
+    ∷ record { answer = 3; applies = not (known? r) }
+    ∷ record { answer = 4; applies = not (limited? r) }
+    ∷ []
+
+-- What is due after line 1: inputs, gates and outputs are its counts, gate and output the numbers of those read so far, and ands the ANDs
+-- that these gates stand for.
 abbrev pub body : ℕ → ℕ → ℕ → ℕ → ℕ → ℕ → Due
 body inputs gates outputs gate output ands =
     Later (record { inputs = inputs; gates = gates; outputs = outputs; gate = gate; output = output; ands = ands })
 
--- "3. The edition is not 1. 4. A count in line 1 is beyond its limit."
-unfoldable pub headerStep : ℕ → ℕ → ℕ → ℕ → Stepped
-headerStep e i g o =
-    cond (eqb e edition)
-    (cond (leb i maxInputs && leb g maxGates && leb 1 o && leb o maxOutputs) (Next (body i g o 0 0 0)) (Refuse 4))
-    (Refuse 3)
+-- "5. The line is .. extra, or not of the kind due there": whether it is a gate's and gates are left, or an output's and only outputs are.
+unfoldable pub due? : Body → Record → Bool
+due? b (Gate op p q) = ltb (b .gate) (b .gates)
+due? b (Output r) = eqb (b .gate) (b .gates) && ltb (b .output) (b .outputs)
+due? b (Header e i g o) = false
+due? b Malformed = false
 
--- Line 1: "Within line 1 the order is 2, 5, 3, 4".
-abbrev pub firstStep : Record → Stepped
-firstStep Malformed = Refuse 2
-firstStep (Gate op p q) = Refuse 5
-firstStep (Output r) = Refuse 5
-firstStep (Header e i g o) = headerStep e i g o
+-- "6. A reference is not below twice its gate's vertex number or, in an output, twice the number of vertices.": whether all are.
+unfoldable pub below? : Body → Record → Bool
+below? b (Gate op p q) = ltb p (2 * (1 + b .inputs + b .gate)) && ltb q (2 * (1 + b .inputs + b .gate))
+below? b (Output r) = ltb r (2 * (1 + b .inputs + b .gates))
+below? b (Header e i g o) = false
+below? b Malformed = false
 
--- "6. A reference is not below twice its gate's vertex number", after "5. The line is .. not of the kind due there".
-unfoldable pub gateStep : Body → Operation → ℕ → ℕ → Stepped
-gateStep b op p q =
-    cond (ltb (b .gate) (b .gates))
-    (cond (ltb p (2 * (1 + b .inputs + b .gate)) && ltb q (2 * (1 + b .inputs + b .gate)))
-    (Next (body (b .inputs) (b .gates) (b .outputs) (b .gate + 1) (b .output) (b .ands + andsOf op)))
-    (Refuse 6))
-    (Refuse 5)
+-- "within others 2, 5, 6"
+abbrev pub laterTests : Body → Record → List (Test ℕ)
+laterTests b r =
+    record { answer = 2; applies = not (formed? r) }
+    ∷ record { answer = 5; applies = not (due? b r) }
+    ∷ record { answer = 6; applies = not (below? b r) }
+    ∷ []
 
--- "or, in an output, twice the number of vertices", after "5. The line is .. extra, or not of the kind due there".
-unfoldable pub outputStep : Body → ℕ → Stepped
-outputStep b r =
-    cond (eqb (b .gate) (b .gates) && ltb (b .output) (b .outputs))
-    (cond (ltb r (2 * (1 + b .inputs + b .gates)))
-    (Next (body (b .inputs) (b .gates) (b .outputs) (b .gate) (b .output + 1) (b .ands)))
-    (Refuse 6))
-    (Refuse 5)
+-- The tests of a line, by what is due.
+abbrev pub lineTests : Due → Record → List (Test ℕ)
+lineTests First r = firstTests r
+lineTests (Later b) r = laterTests b r
 
--- A later line: "within others 2, 5, 6".
-abbrev pub laterStep : Body → Record → Stepped
-laterStep b Malformed = Refuse 2
-laterStep b (Header e i g o) = Refuse 5
-laterStep b (Gate op p q) = gateStep b op p q
-laterStep b (Output r) = outputStep b r
+-- "5. The line is missing .. (an empty file: line 1)": whether more lines are due.
+unfoldable pub more? : Due → Bool
+more? First = true
+more? (Later b) = not (eqb (b .gate) (b .gates) && eqb (b .output) (b .outputs))
 
--- What a line comes to, by what is due.
-abbrev pub stepOf : Due → Record → Stepped
-stepOf First r = firstStep r
-stepOf (Later b) r = laterStep b r
+-- The test after the last line.
+abbrev pub endTests : Due → List (Test ℕ)
+endTests due = record { answer = 5; applies = more? due } ∷ []
 
--- After the last line, line n being the next: "5. The line is missing" (an empty file: line 1), or all that was due was there.
-unfoldable pub finish : ℕ → ℕ → Due → Checked
-finish start n First = Refused 5 n
-finish start n (Later b) =
-    cond (eqb (b .gate) (b .gates) && eqb (b .output) (b .outputs))
-    (Accepted (record { inputs = b .inputs; gates = b .gates; outputs = b .outputs; ands = b .ands; start = start }))
-    (Refused 5 n)
+-- What is due after a line that passed its tests.
+unfoldable pub dueAfter : Due → Record → Due
+dueAfter First (Header e i g o) = body i g o 0 0 0
+dueAfter First (Gate op p q) = First
+dueAfter First (Output r) = First
+dueAfter First Malformed = First
+dueAfter (Later b) (Gate op p q) = body (b .inputs) (b .gates) (b .outputs) (b .gate + 1) (b .output) (b .ands + andsOf op)
+dueAfter (Later b) (Output r) = body (b .inputs) (b .gates) (b .outputs) (b .gate) (b .output + 1) (b .ands)
+dueAfter (Later b) (Header e i g o) = Later b
+dueAfter (Later b) Malformed = Later b
 
--- A refusal at line n, or what follows.
-abbrev pub andThen : ℕ → Stepped → (Due → Checked) → Checked
-andThen n (Refuse k) rest = Refused k n
-andThen n (Next due) rest = rest due
+-- What an accepted file has.
+pub record Counts : Type 0 where
+  pub inputs : ℕ
+  pub gates : ℕ
+  pub outputs : ℕ
+  pub ands : ℕ
+
+-- An answer: the counts of an accepted file, or the number and the line of a refusal.
+pub data Answer : Type 0 where
+  accepted : Counts → Answer
+  refused : ℕ → ℕ → Answer
+
+-- The paper's number and values for each case of the result.
+abbrev pub answerOf : Checked → Answer
+answerOf (Accepted s) = accepted (record { inputs = s .inputs; gates = s .gates; outputs = s .outputs; ands = s .ands })
+answerOf (Refused k n) = refused k n
+
+-- The counts when all lines are passed.
+abbrev pub countsOf : Due → Counts
+countsOf First = record { inputs = 0; gates = 0; outputs = 0; ands = 0 }
+countsOf (Later b) = record { inputs = b .inputs; gates = b .gates; outputs = b .outputs; ands = b .ands }
+
+-- The answer at line n, by the number of the refusal that applies there: 0 where none does, and then the answer is what follows.
+abbrev pub answerAt : ℕ → ℕ → Answer → Answer
+answerAt n number rest = cond (eqb number 0) rest (refused number n)
+
+-- After the last line, line n being the next.
+unfoldable pub finish : ℕ → Due → Answer
+finish n due = answerAt n (firstRefusal 0 (endTests due)) (accepted (countsOf due))
 
 -- "then 2 to 6 line by line": the records from line n on, by what is due.
-unfoldable pub checkFrom : ℕ → ℕ → Due → List Record → Checked
-checkFrom start n due [] = finish start n due
-checkFrom start n due (r ∷ rs) = andThen n (stepOf due r) (λ next. checkFrom start (n + 1) next rs)
+unfoldable pub checkFrom : ℕ → Due → List Record → Answer
+checkFrom n due [] = finish n due
+checkFrom n due (r ∷ rs) = answerAt n (firstRefusal 0 (lineTests due r)) (checkFrom (n + 1) (dueAfter due r) rs)
 
--- A whole file. The gate lines start after line 1.
-unfoldable pub checkFile : List ℕ → Checked
-checkFile bytes = checkFrom (length (upTo 10 bytes) + 1) 1 First (fileRecords bytes)
-
--- The paper's number and line of an answer; 0 and 0 where the file is accepted.
-abbrev pub numberOf : Checked → ℕ
-numberOf (Accepted s) = 0
-numberOf (Refused k n) = k
-
-abbrev pub lineOf : Checked → ℕ
-lineOf (Accepted s) = 0
-lineOf (Refused k n) = n
+-- A whole file.
+unfoldable pub checkFile : List ℕ → Answer
+checkFile bytes = checkFrom 1 First (fileRecords bytes)
 
 -- The gates of some records, in order.
 unfoldable pub gatesIn : List Record → List netlist.Gate
@@ -131,12 +177,12 @@ netlistIn inputs rs = record { inputs = inputs; gates = gatesIn rs; outputs = ou
 -- A netlist, or a refusal's number and line.
 pub data Read : Type 0 where
   read : Netlist → Read
-  refused : ℕ → ℕ → Read
+  unread : ℕ → ℕ → Read
 
 -- What was read, by what the check says of the records.
-unfoldable pub readBy : Checked → List Record → Read
-readBy (Accepted s) rs = read (netlistIn (s .inputs) rs)
-readBy (Refused k n) rs = refused k n
+unfoldable pub readBy : Answer → List Record → Read
+readBy (accepted c) rs = read (netlistIn (c .inputs) rs)
+readBy (refused k n) rs = unread k n
 
 -- The netlist that a file's bytes hold, or why they hold none.
 unfoldable pub readNetlist : List ℕ → Read

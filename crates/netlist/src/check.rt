@@ -3,9 +3,10 @@ use crate::lines;
 use crate::records;
 use crate::records::Operation;
 use crate::records::Record;
-ghost use Prim.Native.Nat.{_<_};
-ghost use Rattle.netlist.specs.Check.{andsOf, checkFile, finish, firstStep, gateStep, headerStep, laterStep, outputStep, stepOf};
-ghost use Rattle.netlist.specs.Passing.{Counted, Held, lineRecord};
+ghost use Prim.Native.Nat.{_+_, _<_};
+ghost use Rattle.netlist.specs.Check.{andsOf, answerOf, checkFile, finish};
+ghost use Rattle.netlist.specs.Passing.{Counted, Held, StartsAt, lineRecord, stepOf};
+ghost use Rattle.text.specs.Split.{upTo};
 ghost use lib.ListN.{drop, length};
 ghost use mathlib.Core.Path.{_≡_};
 
@@ -47,7 +48,8 @@ pub enum Checked {
 
 // Whether a file keeps the layout, the limits and the bounds of its references: tests 2 to 6, line by line.
 pub fn check_file(file: &[u8]) -> Checked
-    ensures { λ r. ⌜ r ≡ checkFile (now (file .entry)) ⌝ }
+    ensures answer { λ r. ⌜ answerOf r ≡ checkFile (now (file .entry)) ⌝ }
+    ensures start { λ r. ⌜ StartsAt (length (upTo 10 (now (file .entry))) + 1) r ⌝ }
 {
     let start = text::until(file, 0, lines::LINE_END).len() + 1;
     let mut at = 0;
@@ -91,7 +93,7 @@ fn step(due: Due, found: Record) -> Stepped
 }
 
 fn first_step(found: Record) -> Stepped
-    ensures { λ r. ⌜ r ≡ firstStep found ⌝ }
+    ensures { λ r. ⌜ r ≡ stepOf Due.First found ⌝ }
 {
     match found {
         Record::Malformed => Stepped::Refuse(2),
@@ -107,7 +109,7 @@ fn first_step(found: Record) -> Stepped
 }
 
 fn header_step(edition: u32, inputs: u32, gates: u32, outputs: u32) -> Stepped
-    ensures { λ r. ⌜ r ≡ headerStep edition inputs gates outputs ⌝ }
+    ensures { λ r. ⌜ r ≡ stepOf Due.First (Record.Header edition inputs gates outputs) ⌝ }
 {
     if edition != crate::EDITION {
         return Stepped::Refuse(3);
@@ -136,7 +138,7 @@ fn header_step(edition: u32, inputs: u32, gates: u32, outputs: u32) -> Stepped
 
 fn later_step(body: Body, found: Record) -> Stepped
     requires { ⌜ Counted body ⌝ }
-    ensures { λ r. ⌜ r ≡ laterStep body found ⌝ }
+    ensures { λ r. ⌜ r ≡ stepOf (Due.Later body) found ⌝ }
 {
     match found {
         Record::Malformed => Stepped::Refuse(2),
@@ -153,7 +155,7 @@ fn later_step(body: Body, found: Record) -> Stepped
 
 fn gate_step(body: Body, op: Operation, p: u32, q: u32) -> Stepped
     requires { ⌜ Counted body ⌝ }
-    ensures { λ r. ⌜ r ≡ gateStep body op p q ⌝ }
+    ensures { λ r. ⌜ r ≡ stepOf (Due.Later body) (Record.Gate op p q) ⌝ }
 {
     if body.gates <= body.gate {
         return Stepped::Refuse(5);
@@ -188,7 +190,7 @@ fn ands_of(op: Operation) -> u32
 
 fn output_step(body: Body, r: u32) -> Stepped
     requires { ⌜ Counted body ⌝ }
-    ensures { λ s. ⌜ s ≡ outputStep body r ⌝ }
+    ensures { λ s. ⌜ s ≡ stepOf (Due.Later body) (Record.Output r) ⌝ }
 {
     if body.gate != body.gates {
         return Stepped::Refuse(5);
@@ -211,7 +213,8 @@ fn output_step(body: Body, r: u32) -> Stepped
 
 // After the last line, `line` being the number of the next.
 fn ended(start: usize, line: u32, due: Due) -> Checked
-    ensures { λ r. ⌜ r ≡ finish start line due ⌝ }
+    ensures answer { λ r. ⌜ answerOf r ≡ finish line due ⌝ }
+    ensures start { λ r. ⌜ StartsAt start r ⌝ }
 {
     let Due::Later(body) = due else {
         return Checked::Refused { number: 5, line };

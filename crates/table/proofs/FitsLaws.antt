@@ -6,7 +6,6 @@ use Rattle.table.specs.Accepted.{Accepted, RowBelow}
 use Rattle.table.specs.Fits.{Fits}
 use Rattle.table.specs.Refusals.{firstRefusal}
 use Rattle.table.specs.Table.{inputsOf, madeOf, outputsOf, tableTests}
-use lib.ListN.{length}
 use mathlib.Core.List.{List}
 use mathlib.Core.Path.{_≡_, subst⁻¹}
 use native.Mathlib.Omega.{arith}

@@ -1,7 +1,6 @@
 -- The refusal is decided over lengths and shared borrows, and then the work is done on what is known to be good; no loop.
 -- At a refusal nothing has been written.
-use Rattle.loader.specs.Load.{tableAfter}
-use Rattle.loader.specs.declared.Loaded.the-variants.{Accepted}
+use Rattle.loader.specs.Load.{accepted, tableAfter}
 use Rattle.load.proofs.Deciding.{goes-on, goes-table, refusal-result}
 use Rattle.load.proofs.load.Statement.{statement}
 use Rattle.load.proofs.load.Tie as tie
@@ -44,7 +43,7 @@ same-length-5 c = search needs
 returns-2 : tie.Need-returns-2
 returns-2 c =
     let g = goes-on _ _ _ (c .before .before .before .before .before .before .before .before .before .before .before .before .before .before .before .before .before .before .before .decide .ensures) (c .before .before .before .before .before .before .before .before .before .before .before .before .before .before .before .before .before .decision2 .given .1) in
-    (ap Accepted (c .before .before .before .before .before .before .before .before .before .before .load-pair .ensures .0) ∙ sym (g .result), (c .before .before .before .before .before .before .before .before .before .before .load-pair .ensures .1 ∙ sym (goes-table _ _ _ g _ _), tt))
+    (ap accepted (c .before .before .before .before .before .before .before .before .before .before .load-pair .ensures .0) ∙ sym (g .result), (c .before .before .before .before .before .before .before .before .before .before .load-pair .ensures .1 ∙ sym (goes-table _ _ _ g _ _), tt))
 
 pub load-spec : {M : Type 1} → statement M
 load-spec =

@@ -8,10 +8,10 @@ use lib.ListN.{length}
 use mathlib.Core.Path.{_≡_}
 
 abbrev Inv-loop : tie.InvT-loop
-Inv-loop file₀ from gates at₀ i₀ t6 file at i = (i ≤ 64) × (length file ≡ length file₀)
+Inv-loop file₀ from gates outputs at₀ i₀ t7 file at i = (i ≤ outputs) × (length file ≡ length file₀)
 
 abbrev μ-loop : tie.MeasureT-loop
-μ-loop file₀ from gates at₀ i₀ t6 file at i = 64 - i
+μ-loop file₀ from gates outputs at₀ i₀ t7 file at i = outputs - i
 
 loop-holds : tie.Need-loop-holds Inv-loop μ-loop
 loop-holds c = search needs

@@ -1,5 +1,6 @@
 -- The lengths of both files, then what their checks say; no loop.
 -- At the last return neither file is too long.
+use Rattle.load.proofs.Deciding.{both-checked, checked-is}
 use Rattle.load.proofs.decision.decide.Statement.{statement}
 use Rattle.load.proofs.decision.decide.Tie as tie
 use Rattle.load.specs.Decision.{decision}
@@ -33,7 +34,11 @@ decide-read-requires c κs = search needs
 
 returns-3 : tie.Need-returns-3
 unfolding decision firstRefusal
-returns-3 c = rw (le-ltb _ _ (c .before .before .before .before .if1 .left), le-ltb _ _ (c .before .before .before .if2 .left), ← c .before .before .check-file .ensures, ← c .before .check-file2 .ensures) (c .decide-read .ensures)
+returns-3 c =
+    let one = c .before .before .check-file .ensures in
+    let two = c .before .check-file2 .ensures in
+    rw (le-ltb _ _ (c .before .before .before .before .if1 .left), le-ltb _ _ (c .before .before .before .if2 .left))
+    (c .decide-read .ensures ∙ both-checked _ (checked-is _ _ (one .0) (one .1)) (checked-is _ _ (two .0) (two .1)))
 
 pub decide-spec : {M : Type 1} → statement M
 decide-spec =

@@ -3,7 +3,8 @@
 use Rattle.netlist.proofs.StepLaws.{finish-all, finish-missing}
 use Rattle.netlist.proofs.check.ended.Statement.{statement}
 use Rattle.netlist.proofs.check.ended.Tie as tie
-use Rattle.netlist.specs.Check.{finish}
+use Rattle.netlist.specs.Check.{finish, more?}
+use Rattle.table.specs.Refusals.{firstRefusal}
 use borrow.Author.Needs.{needs}
 use mathlib.Core.Path.{refl, sym}
 
@@ -14,21 +15,21 @@ enum-told : tie.Need-enum-told
 enum-told c = search needs
 
 returns : tie.Need-returns
-unfolding finish
-returns c = rw (c .enum-told .given .1) refl
+unfolding finish firstRefusal more?
+returns c = (rw (c .enum-told .given .1) refl, tt)
 
 returns-2 : tie.Need-returns-2
-returns-2 c = rw (c .before .before .before .due .given .1) (sym (finish-missing _ _ _ (λ d. c .if1 .taken (d .gates))))
+returns-2 c = (rw (c .before .before .before .due .given .1) (sym (finish-missing _ _ (λ d. c .if1 .taken (d .gates)))), tt)
 
 returns-3 : tie.Need-returns-3
 returns-3 c =
     let at1 = c .before .before in
-    rw (at1 .before .before .before .due .given .1) (sym (finish-missing _ _ _ (λ d. c .if2 .taken (d .outputs))))
+    (rw (at1 .before .before .before .due .given .1) (sym (finish-missing _ _ (λ d. c .if2 .taken (d .outputs)))), tt)
 
 returns-4 : tie.Need-returns-4
 returns-4 c =
     let at1 = c .before .before in
-    rw (at1 .before .before .before .due .given .1) (sym (finish-all _ _ _ (record { gates = at1 .if1 .left; outputs = c .if2 .left })))
+    (rw (at1 .before .before .before .due .given .1) (sym (finish-all _ _ (record { gates = at1 .if1 .left; outputs = c .if2 .left }))), refl)
 
 pub ended-spec : {M : Type 1} → statement M
 ended-spec = tie.close (tie.spec enum-known-due enum-told returns returns-2 returns-3 returns-4)

@@ -2,6 +2,9 @@
 -- The header's counts are tested by the call.
 use Rattle.netlist.proofs.check.first_step.Statement.{statement}
 use Rattle.netlist.proofs.check.first_step.Tie as tie
+use Rattle.netlist.specs.Check.{formed?, header?}
+use Rattle.netlist.specs.Passing.{stepOf}
+use Rattle.table.specs.Refusals.{firstRefusal}
 use borrow.Author.Needs.{needs}
 use mathlib.Core.Path.{refl}
 
@@ -21,12 +24,15 @@ header-step-requires : tie.Need-header-step-requires
 header-step-requires c κs = search needs
 
 returns : tie.Need-returns
+unfolding stepOf firstRefusal formed? header?
 returns c = rw (c .enum-told .given .1) refl
 
 returns-2 : tie.Need-returns-2
+unfolding stepOf firstRefusal formed? header?
 returns-2 c = rw (c .enum-told2 .given .1) refl
 
 returns-3 : tie.Need-returns-3
+unfolding stepOf firstRefusal formed? header?
 returns-3 c = rw (c .enum-told3 .given .1) refl
 
 returns-4 : tie.Need-returns-4

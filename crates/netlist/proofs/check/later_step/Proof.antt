@@ -2,6 +2,9 @@
 -- The calls keep the counts within their limits.
 use Rattle.netlist.proofs.check.later_step.Statement.{statement}
 use Rattle.netlist.proofs.check.later_step.Tie as tie
+use Rattle.netlist.specs.Check.{due?, formed?}
+use Rattle.netlist.specs.Passing.{stepOf}
+use Rattle.table.specs.Refusals.{firstRefusal}
 use borrow.Author.Needs.{needs}
 use mathlib.Core.Path.{refl}
 
@@ -24,9 +27,11 @@ output-step-requires : tie.Need-output-step-requires
 output-step-requires c κs = search needs
 
 returns : tie.Need-returns
+unfolding stepOf firstRefusal formed? due?
 returns c = rw (c .enum-told .given .1) refl
 
 returns-2 : tie.Need-returns-2
+unfolding stepOf firstRefusal formed? due?
 returns-2 c = rw (c .enum-told2 .given .1) refl
 
 returns-3 : tie.Need-returns-3
