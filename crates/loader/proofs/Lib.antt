@@ -6,6 +6,7 @@ pub mod GateLaws
 pub mod GrownLaws
 pub mod LoadLaws
 pub mod MeaningLaws
+pub mod OrderLaws
 pub mod PairLaws
 pub mod PairMeaningLaws
 pub mod RowLaws

@@ -55,7 +55,7 @@ load-given {left} {right} {room} h =
     ) refl)
 
 -- Demand 1: the files of two netlists within the limits, with equal counts and at most 6,144 ANDs, are accepted where there is room.
-pub load-accepts : {d e : Netlist} {room : Room} → Loadable d e → Enough room → length (bytesOf d) ≤ maxBytes → length (bytesOf e) ≤ maxBytes
+pub load-accepts : {d e : Netlist} {room : Room} → Loadable d e → Enough room → length (bytesOf d) ≤ 65536 → length (bytesOf e) ≤ 65536
     → loadResult (bytesOf d) (bytesOf e) room ≡ accepted (tallyOf d e)
 load-accepts {d} {e} h r left right =
     load-given (

@@ -1,8 +1,8 @@
 -- The check of records: a netlist within its limits is accepted, and what is accepted is the records of such a netlist.
 use Prim.Native.Nat.{_*_, _+_, _<_, suc, ℕ}
-use Rattle.netlist.proofs.StepLaws.{GateFits, Limited, OutputDue, andThen, check-next, check-step, finish-all, finish-cases, gate-cases, gate-next, header-cases, header-next, output-cases, output-next}
+use Rattle.netlist.proofs.StepLaws.{GateFits, Limited, OutputDue, andThen, check-next, check-refused, check-step, finish-all, finish-cases, gate-cases, gate-first, gate-next, header-again, header-cases, header-next, malformed-refused, output-cases, output-first, output-next}
 use Rattle.netlist.specs.Accepted.{countsIn}
-use Rattle.netlist.specs.Check.{Answer, Counts, accepted, andsOf, body, checkFrom, due?, finish, formed?, header?, more?, refused}
+use Rattle.netlist.specs.Check.{Answer, Counts, accepted, andsOf, body, checkFrom, finish, more?, refused}
 use Rattle.netlist.specs.Limits.{edition}
 use Rattle.netlist.specs.Meaning.{andCount}
 use Rattle.netlist.specs.Netlist as netlist
@@ -143,10 +143,10 @@ module _ (s : Counts) where
 
   -- What is left where the check of it accepts.
   left : (rs : List Record) (n : ℕ) (b : Body) → checkFrom n (Later b) rs ≡ accepted s → Left b rs s
-  unfolding checkFrom firstRefusal formed? due?
+  unfolding checkFrom
   left [] n b e = left-none n b e
-  left (Malformed ∷ rs) n b e = refusal e
-  left (Header x i g o ∷ rs) n b e = refusal e
+  left (Malformed ∷ rs) n b e = refusal (sym (check-refused n (Later b) Malformed rs 2 (malformed-refused (Later b))) ∙ e)
+  left (Header x i g o ∷ rs) n b e = refusal (sym (check-refused n (Later b) (Header x i g o) rs 5 (header-again b x i g o)) ∙ e)
   left (Gate op p q ∷ rs) n b e =
       gate-cases b op p q
       (λ c. andThen n c (λ next. checkFrom (n + 1) next rs) ≡ accepted s → Left b (Gate op p q ∷ rs) s)
@@ -192,11 +192,11 @@ module _ (s : Counts) where
 
   -- Records that are accepted are those of a netlist within its limits.
   pub taken : (rs : List Record) → checkFrom 1 First rs ≡ accepted s → Taken rs
-  unfolding checkFrom finish firstRefusal formed? header? more?
+  unfolding checkFrom finish firstRefusal more?
   taken [] e = refusal e
-  taken (Malformed ∷ rs) e = refusal e
-  taken (Gate op p q ∷ rs) e = refusal e
-  taken (Output r ∷ rs) e = refusal e
+  taken (Malformed ∷ rs) e = refusal (sym (check-refused 1 First Malformed rs 2 (malformed-refused First)) ∙ e)
+  taken (Gate op p q ∷ rs) e = refusal (sym (check-refused 1 First (Gate op p q) rs 5 (gate-first op p q)) ∙ e)
+  taken (Output r ∷ rs) e = refusal (sym (check-refused 1 First (Output r) rs 5 (output-first r)) ∙ e)
   taken (Header x i g o ∷ rs) e =
       header-cases x i g o (λ c. andThen 1 c (λ next. checkFrom (1 + 1) next rs) ≡ accepted s → Taken (Header x i g o ∷ rs))
       (λ h. refusal) (λ h k. refusal)

@@ -1,8 +1,8 @@
 -- What holds while a file is passed line by line: what is ahead decides the answer.
 use Prim.Native.Nat.{_+_, _<_, _≤_, ℕ}
 use Rattle.netlist.proofs.LineLaws.{formed-ended, records-ahead, records-end}
-use Rattle.netlist.proofs.StepLaws.{andThen, ands-few, check-step, gate-cases, header-cases, output-cases}
-use Rattle.netlist.specs.Check.{checkFile, checkFrom, due?, finish, formed?, header?, refused}
+use Rattle.netlist.proofs.StepLaws.{andThen, ands-few, check-step, gate-cases, gate-first, header-again, header-cases, malformed-refused, output-cases, output-first}
+use Rattle.netlist.specs.Check.{checkFile, checkFrom, finish, refused}
 use Rattle.netlist.specs.Limits.{maxGates}
 use Rattle.netlist.specs.Passing.{Counted, Held, at-first, at-later, lineDue, lineRecord, stepOf}
 use Rattle.netlist.specs.Records.{fileRecords}
@@ -14,7 +14,6 @@ use Rattle.netlist.specs.declared.check.Stepped.{Stepped}
 use Rattle.netlist.specs.declared.records.Record.the-variants.{Gate, Header, Malformed, Output}
 use Rattle.netlist.specs.declared.records.Record.{Record}
 use Rattle.table.specs.Limits.{maxOutputs}
-use Rattle.table.specs.Refusals.{firstRefusal}
 use Rattle.text.specs.Split.{upTo}
 use lib.ListN.{drop, length}
 use mathlib.Core.List.{List}
@@ -40,20 +39,15 @@ record Kept (n : ℕ) (due : Due) : Type 0 where
 refusal : {k : ℕ} {due : Due} {A : Type 0} → Refuse k ≡ Next due → A
 refusal {k} {due} e = let z : _≡_ {A = ℕ} 0 1 = cc in absurd (omega arith)
 
-malformed-refused : (due : Due) → stepOf due Malformed ≡ Refuse 2
-unfolding stepOf firstRefusal formed?
-malformed-refused First = refl
-malformed-refused (Later b) = refl
-
 next-is : {due other : Due} → Next due ≡ Next other → due ≡ other
 next-is e = cc
 
 -- A good line keeps the counts within their limits, and the next line's number is one more.
 keeps : {due next : Due} (r : Record) → Held due → stepOf due r ≡ Next next → Kept (lineDue due) next
-unfolding lineDue stepOf firstRefusal formed? header? due?
-keeps {next = next} Malformed at-first e = refusal e
-keeps {next = next} (Gate op p q) at-first e = refusal e
-keeps {next = next} (Output r) at-first e = refusal e
+unfolding lineDue
+keeps {next = next} Malformed at-first e = refusal (sym (malformed-refused First) ∙ e)
+keeps {next = next} (Gate op p q) at-first e = refusal (sym (gate-first op p q) ∙ e)
+keeps {next = next} (Output r) at-first e = refusal (sym (output-first r) ∙ e)
 keeps {next = next} (Header e i g o) at-first h =
     header-cases e i g o (λ s. s ≡ Next next → Kept 1 next) (λ k. refusal) (λ k l. refusal)
     (λ k l f.
@@ -72,8 +66,8 @@ keeps {next = next} (Header e i g o) at-first h =
       number = refl;
     }))
     h
-keeps {next = next} Malformed (at-later h) e = refusal e
-keeps {next = next} (Header e i g o) (at-later h) f = refusal f
+keeps {next = next} Malformed (at-later {b = b} h) e = refusal (sym (malformed-refused (Later b)) ∙ e)
+keeps {next = next} (Header e i g o) (at-later {b = b} h) f = refusal (sym (header-again b e i g o) ∙ f)
 keeps {next = next} (Gate op p q) (at-later {b = b} h) e =
     gate-cases b op p q (λ s. s ≡ Next next → Kept (2 + b .gate + b .output) next) (λ k. refusal) (λ k l. refusal)
     (λ k f.

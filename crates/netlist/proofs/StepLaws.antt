@@ -10,7 +10,7 @@ use Rattle.netlist.specs.declared.check.Stepped.the-variants.{Next, Refu
 use Rattle.netlist.specs.declared.check.Stepped.{Stepped}
 use Rattle.netlist.specs.declared.records.Operation.the-variants.{And, Or, Xor}
 use Rattle.netlist.specs.declared.records.Operation.{Operation}
-use Rattle.netlist.specs.declared.records.Record.the-variants.{Gate, Header, Output}
+use Rattle.netlist.specs.declared.records.Record.the-variants.{Gate, Header, Malformed, Output}
 use Rattle.netlist.specs.declared.records.Record.{Record}
 use Rattle.table.specs.Limits.{maxInputs, maxOutputs}
 use Rattle.table.specs.Refusals.{firstRefusal}
@@ -43,6 +43,30 @@ check-step n due r rs = go (eqb (firstRefusal 0 (lineTests due r)) 0)
 pub check-next : (n : ℕ) (due next : Due) (r : Record) (rs : List Record) → stepOf due r ≡ Next next
     → checkFrom n due (r ∷ rs) ≡ checkFrom (n + 1) next rs
 check-next n due next r rs e = check-step n due r rs ∙ (rw e refl)
+
+-- A line that is refused.
+pub check-refused : (n : ℕ) (due : Due) (r : Record) (rs : List Record) (k : ℕ) → stepOf due r ≡ Refuse k → checkFrom n due (r ∷ rs) ≡ refused k n
+check-refused n due r rs k e = check-step n due r rs ∙ (rw e refl)
+
+-- A malformed line, whatever is due.
+pub malformed-refused : (due : Due) → stepOf due Malformed ≡ Refuse 2
+unfolding stepOf firstRefusal formed? header? known? limited? due? below?
+malformed-refused First = refl
+malformed-refused (Later b) = refl
+
+-- A gate or an output in line 1.
+pub gate-first : (op : Operation) (p q : ℕ) → stepOf First (Gate op p q) ≡ Refuse 5
+unfolding stepOf firstRefusal formed? header? known? limited?
+gate-first op p q = refl
+
+pub output-first : (r : ℕ) → stepOf First (Output r) ≡ Refuse 5
+unfolding stepOf firstRefusal formed? header? known? limited?
+output-first r = refl
+
+-- Line 1 again.
+pub header-again : (b : Body) (e i g o : ℕ) → stepOf (Later b) (Header e i g o) ≡ Refuse 5
+unfolding stepOf firstRefusal formed? due? below?
+header-again b e i g o = refl
 
 -- The counts of line 1 within their limits.
 pub record Limited (i g o : ℕ) : Type 0 where

@@ -1,12 +1,11 @@
 -- A netlist, and the bytes of its file.
 use Prim.Native.Nat.{_*_, _+_, _<_, _≤_, suc, ℕ}
-use Rattle.netlist.specs.Limits.{edition, maxGates}
+use Rattle.netlist.specs.Limits.{edition}
 use Rattle.netlist.specs.Records.{operationBytes}
 use Rattle.netlist.specs.declared.records.Operation.{Operation}
 use Rattle.netlist.specs.declared.records.Record.the-variants as kinds
 use Rattle.netlist.specs.declared.records.Record.the-variants.{Header, Malformed, Output}
 use Rattle.netlist.specs.declared.records.Record.{Record}
-use Rattle.table.specs.Limits.{maxInputs, maxOutputs}
 use Rattle.text.specs.Decimal.{decimal}
 use Rattle.text.specs.Split.{join}
 use lib.ListN.{length}
@@ -34,12 +33,13 @@ pub data AllBelow : ℕ → List ℕ → Type 0 where
   none : {n : ℕ} → AllBelow n []
   next : {n r : ℕ} {rs : List ℕ} → r < n → AllBelow n rs → AllBelow n (r ∷ rs)
 
--- "Limits: .. 0 to 64 inputs; 0 to 4,096 gates a file; 1 to 64 outputs", and references below their bounds.
+-- "Limits: .. 0 to 64 inputs; 0 to 4,096 gates a file; 1 to 64 outputs", and references below their bounds. Demand 1 stands on it, so the
+-- paper's numbers are written out: a wrong limit in the tests accepts or refuses another file.
 pub record Within (d : Netlist) : Type 0 where
-  pub inputs : d .inputs ≤ maxInputs
-  pub gates : length (d .gates) ≤ maxGates
+  pub inputs : d .inputs ≤ 64
+  pub gates : length (d .gates) ≤ 4096
   pub some : 1 ≤ length (d .outputs)
-  pub outputs : length (d .outputs) ≤ maxOutputs
+  pub outputs : length (d .outputs) ≤ 64
   pub downward : Downward (1 + d .inputs) (d .gates)
   pub below : AllBelow (2 * (1 + d .inputs + length (d .gates))) (d .outputs)
 

@@ -1,12 +1,11 @@
 -- Each arm is one kind of record; no loop.
 -- The header's counts are tested by the call.
+use Rattle.netlist.proofs.StepLaws.{gate-first, malformed-refused, output-first}
 use Rattle.netlist.proofs.check.first_step.Statement.{statement}
 use Rattle.netlist.proofs.check.first_step.Tie as tie
-use Rattle.netlist.specs.Check.{formed?, header?}
-use Rattle.netlist.specs.Passing.{stepOf}
-use Rattle.table.specs.Refusals.{firstRefusal}
+use Rattle.netlist.specs.declared.check.Due.the-variants.{First}
 use borrow.Author.Needs.{needs}
-use mathlib.Core.Path.{refl}
+use mathlib.Core.Path.{sym}
 
 enum-told : tie.Need-enum-told
 enum-told c = search needs
@@ -24,16 +23,13 @@ header-step-requires : tie.Need-header-step-requires
 header-step-requires c κs = search needs
 
 returns : tie.Need-returns
-unfolding stepOf firstRefusal formed? header?
-returns c = rw (c .enum-told .given .1) refl
+returns c = rw (c .enum-told .given .1) (sym (malformed-refused First))
 
 returns-2 : tie.Need-returns-2
-unfolding stepOf firstRefusal formed? header?
-returns-2 c = rw (c .enum-told2 .given .1) refl
+returns-2 c = rw (c .enum-told2 .given .1) (sym (gate-first _ _ _))
 
 returns-3 : tie.Need-returns-3
-unfolding stepOf firstRefusal formed? header?
-returns-3 c = rw (c .enum-told3 .given .1) refl
+returns-3 c = rw (c .enum-told3 .given .1) (sym (output-first _))
 
 returns-4 : tie.Need-returns-4
 returns-4 c = rw (c .before .before .found .given .1) (c .header-step .ensures)

@@ -1,12 +1,10 @@
 -- Each arm is one kind of record; no loop.
 -- The calls keep the counts within their limits.
+use Rattle.netlist.proofs.StepLaws.{header-again, malformed-refused}
 use Rattle.netlist.proofs.check.later_step.Statement.{statement}
 use Rattle.netlist.proofs.check.later_step.Tie as tie
-use Rattle.netlist.specs.Check.{due?, formed?}
-use Rattle.netlist.specs.Passing.{stepOf}
-use Rattle.table.specs.Refusals.{firstRefusal}
 use borrow.Author.Needs.{needs}
-use mathlib.Core.Path.{refl}
+use mathlib.Core.Path.{sym}
 
 enum-told : tie.Need-enum-told
 enum-told c = search needs
@@ -27,12 +25,10 @@ output-step-requires : tie.Need-output-step-requires
 output-step-requires c κs = search needs
 
 returns : tie.Need-returns
-unfolding stepOf firstRefusal formed? due?
-returns c = rw (c .enum-told .given .1) refl
+returns c = rw (c .enum-told .given .1) (sym (malformed-refused _))
 
 returns-2 : tie.Need-returns-2
-unfolding stepOf firstRefusal formed? due?
-returns-2 c = rw (c .enum-told2 .given .1) refl
+returns-2 c = rw (c .enum-told2 .given .1) (sym (header-again _ _ _ _ _))
 
 returns-3 : tie.Need-returns-3
 returns-3 c = rw (c .before .before .found .given .1) (c .gate-step .ensures)
