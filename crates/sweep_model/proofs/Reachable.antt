@@ -1,5 +1,4 @@
--- What holds of every state that the sweep reaches: marks, rows and steps agree, the rows of vertices with diagrams are stored, no two such vertices are
--- alike.
+-- The first normalising leaves a state of which `Reachable` holds, and every step of the sweep keeps it.
 use Prim.Native.Nat.{_-_, _<_, _≤_, ℕ}
 use Rattle.product_model.proofs.Members.{within-none}
 use Rattle.product_model.proofs.Ran.{Done, is-done, kept}

@@ -1,4 +1,4 @@
--- What holds of every state that the sweep reaches, and what the steps that merge nothing keep of it.
+-- The first normalising leaves a steady state, and the steps that merge nothing keep it steady.
 use Prim.Native.Nat.{_-_, _<_, _≤_, suc, ℕ}
 use Rattle.aig.specs.Literal.{vertexOf}
 use Rattle.product_model.specs.Run.{Book, Outcome, addPart}
