@@ -2,6 +2,5 @@ pub mod State
 pub mod Normalise
 pub mod Fit
 pub mod Sweep
-pub mod Reply
 pub mod Claims
 pub mod Cards
