@@ -1,10 +1,10 @@
 -- What compare gives back and leaves, refused or not, is the comparison.
 use Prim.Native.Nat.{_*_, ℕ}
 use Rattle.compare_model.proofs.RefusalLaws.{compared-answered, compared-refused}
-use Rattle.compare_parts.specs.Code.{left}
 use Rattle.compare_model.specs.Compare.{Given, answerTo, answered, callTests, compared, refusalOf, saidBy, settingLeft, tableLeft, turnedBack}
 use Rattle.compare_model.specs.Passed.{Passed}
 use Rattle.compare_model.specs.Said.{Said, saidOf}
+use Rattle.compare_parts.specs.Code.{left}
 use Rattle.comparer.specs.Work.{Finishes, Ran}
 use Rattle.sweep_parts.specs.Ending.{verdictOf}
 use Rattle.sweep_parts.specs.declared.end.Ended.{Ended}

@@ -2,11 +2,11 @@
 use Prim.Native.Nat.{_*_, _<_, _≤_, ℕ}
 use Rattle.bdd.proofs.StoreLaws.{store-length}
 use Rattle.compare_model.proofs.GraphLaws.{count-vertices, fits, length-graph}
-use Rattle.compare_parts.specs.Code.{given, limitsOf, roomOfLists}
 use Rattle.compare_model.specs.Compare.{answerTo, graphWords, overFront, problemOf}
 use Rattle.compare_model.specs.Passed.{Enough, LimitsWithin}
-use Rattle.comparer.specs.Work.{Posed, Ran}
 use Rattle.compare_model.specs.declared.Limits.{Limits}
+use Rattle.compare_parts.specs.Code.{given, limitsOf, roomOfLists}
+use Rattle.comparer.specs.Work.{Posed, Ran}
 use Rattle.sweep_parts.specs.Ending.{verdictOf}
 use Rattle.sweep_parts.specs.Sheets.{sheets}
 use Rattle.sweep_parts.specs.Meet.{Board, board}

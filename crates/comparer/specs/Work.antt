@@ -1,9 +1,9 @@
 -- What the parts of a comparison that is not refused give each other: the sweep's task, how it ended, and what follows it.
 use Prim.Native.Nat.{_*_, _≤_, ℕ}
 use Rattle.bdd.specs.Store.{Store}
-use Rattle.compare_parts.specs.Code.{limitsOf}
 use Rattle.compare_model.specs.Compare.{Given, answerTo, maxRows, maxSteps, overFront, problemOf}
 use Rattle.compare_model.specs.declared.Limits.{Limits as Asked}
+use Rattle.compare_parts.specs.Code.{limitsOf}
 use Rattle.sweep_parts.specs.Ending.{Refers, verdictOf}
 use Rattle.sweep_parts.specs.Words.{posed}
 use Rattle.sweep_parts.specs.declared.end.Ended.{Ended}

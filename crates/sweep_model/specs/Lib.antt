@@ -3,7 +3,6 @@ pub mod Normalise
 pub mod Choices
 pub mod Fit
 pub mod Sweep
-pub mod Reply
 pub mod Claims
 pub mod Cards
 pub mod Steady

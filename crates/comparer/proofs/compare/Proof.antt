@@ -1,11 +1,11 @@
 -- A refusal, or the sweep and what follows it; no loop.
 -- The laws say it of the arguments as given.
-use Rattle.comparer.proofs.CompareLaws.{finished, finishes, refusal-found, turned-back}
 use Rattle.compare_model.proofs.RefusalLaws.{passed}
+use Rattle.compare_model.specs.Compare.{Given}
+use Rattle.compare_parts.specs.Code.{given}
+use Rattle.comparer.proofs.CompareLaws.{finished, finishes, refusal-found, turned-back}
 use Rattle.comparer.proofs.compare.Statement.{statement}
 use Rattle.comparer.proofs.compare.Tie as tie
-use Rattle.compare_parts.specs.Code.{given}
-use Rattle.compare_model.specs.Compare.{Given}
 use borrow.Author.Needs.{needs}
 use mathlib.Core.Path.{_∙_, refl, sym}
 

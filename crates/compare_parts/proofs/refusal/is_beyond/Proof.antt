@@ -1,8 +1,8 @@
 -- Each limit is tested where those before it are within theirs; no loop.
 -- Each return is the test that decides.
+use Rattle.compare_model.specs.Compare.{beyond?}
 use Rattle.compare_parts.proofs.refusal.is_beyond.Statement.{statement}
 use Rattle.compare_parts.proofs.refusal.is_beyond.Tie as tie
-use Rattle.compare_model.specs.Compare.{beyond?}
 use borrow.Author.Needs.{needs}
 use mathlib.Core.Path.{_∙_, refl, sym}
 

@@ -1,8 +1,8 @@
 -- The most is tested where the number is at least 1; no loop.
 -- Each return is the test that decides.
+use Rattle.compare_model.specs.Compare.{outside?}
 use Rattle.compare_parts.proofs.refusal.is_outside.Statement.{statement}
 use Rattle.compare_parts.proofs.refusal.is_outside.Tie as tie
-use Rattle.compare_model.specs.Compare.{outside?}
 use borrow.Author.Tests.{le-leb, lt-leb}
 use mathlib.Core.Path.{refl}
 

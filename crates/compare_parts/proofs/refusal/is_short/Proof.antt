@@ -1,8 +1,8 @@
 -- Each length is tested where those before it are long enough; no loop.
 -- Each return is the test that decides.
+use Rattle.compare_model.specs.Compare.{shortSlice?}
 use Rattle.compare_parts.proofs.refusal.is_short.Statement.{statement}
 use Rattle.compare_parts.proofs.refusal.is_short.Tie as tie
-use Rattle.compare_model.specs.Compare.{shortSlice?}
 use borrow.Author.Needs.{needs}
 use borrow.Author.Tests.{le-ltb, lt-ltb}
 use mathlib.Core.Path.{refl}

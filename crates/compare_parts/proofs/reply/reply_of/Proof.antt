@@ -1,8 +1,8 @@
 -- One return for each end; no loop.
 -- Each rewrites with the end.
+use Rattle.compare_model.specs.Compare.{saidBy}
 use Rattle.compare_parts.proofs.reply.reply_of.Statement.{statement}
 use Rattle.compare_parts.proofs.reply.reply_of.Tie as tie
-use Rattle.compare_model.specs.Compare.{saidBy}
 use Rattle.sweep_parts.specs.Ending.{verdictOf}
 use borrow.Author.Needs.{needs}
 use mathlib.Core.Path.{refl}

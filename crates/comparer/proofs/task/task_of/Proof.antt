@@ -1,9 +1,9 @@
 -- The header, the two literals and the limits; no loop.
 -- The literals are those of the problem.
 use Rattle.aig.specs.declared.literal.Literal.{Literal}
+use Rattle.compare_model.specs.Compare.{problemOf}
 use Rattle.comparer.proofs.task.task_of.Statement.{statement}
 use Rattle.comparer.proofs.task.task_of.Tie as tie
-use Rattle.compare_model.specs.Compare.{problemOf}
 use borrow.Author.Needs.{needs}
 use mathlib.Core.Path.{ap, refl}
 

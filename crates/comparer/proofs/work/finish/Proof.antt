@@ -1,9 +1,9 @@
 -- The rows and the outputs, the setting, the reply; no loop.
 -- Each equation is a callee's.
 use Prim.Native.Nat.{_*_, ℕ}
+use Rattle.compare_model.specs.Compare.{tableLeft}
 use Rattle.comparer.proofs.work.finish.Statement.{statement}
 use Rattle.comparer.proofs.work.finish.Tie as tie
-use Rattle.compare_model.specs.Compare.{tableLeft}
 use Rattle.table.specs.Table.{inputsOf}
 use borrow.Author.Needs.{needs}
 use lib.ListN.{take}
