@@ -12,12 +12,13 @@ use Rattle.report.proofs.StoredLaws.{stored-next}
 use Rattle.report.specs.Report.{LINE-ROOM, Printed, StoredWithin, headLine, lineLength, linePut, refusedLine}
 use Rattle.report_model.proofs.ReportLaws.{loaded-accepted, report-loaded}
 use Rattle.report_model.specs.Report.{Lent, after, comparisons, firstOf, linesOf, loadRoom, replyRoom, reportOf, reportRoom, reported, short?}
-use Rattle.report_pair.specs.Slices.{Ready, reportLeft}
+use Rattle.report_pair.specs.Slices.{Front, Ready, reportLeft}
 use Rattle.table.specs.Limits.{maxInputs, maxOutputs}
 use Rattle.table.specs.Table.{outputsOf}
 use Rattle.text.specs.Decimal.{Stored, written}
 use borrow.Author.Tests.{le-ltb}
 use lib.ListN.{length}
+use lib.Seq.{length-take-le}
 use mathlib.Core.Bool.{false}
 use mathlib.Core.List.{List, _++_}
 use mathlib.Core.Path.{_∙_, _≡_, ap, ap₂, refl, sym}
@@ -32,8 +33,17 @@ head-stored {old} h p =
 
 -- The lines are stored after it.
 pub head-and-lines : {old mid lines new : List ℕ} {start end : ℕ} (outputs : ℕ) → reportRoom ≤ length old → outputs ≤ maxOutputs
-    → StoredWithin old 0 LINE-ROOM headLine mid start → StoredWithin mid start (outputs * replyRoom) lines new end → Stored old 0 (headLine ++ lines) new end
-head-and-lines outputs room bound head lines = stored-next (outputs * replyRoom) (omega arith) head (λ h. lines) .stored
+    → StoredWithin old 0 LINE-ROOM headLine mid start → StoredWithin mid start (outputs * replyRoom) lines new end
+    → StoredWithin old 0 reportRoom (headLine ++ lines) new end
+head-and-lines outputs room bound head lines =
+    let both = stored-next (outputs * replyRoom) (omega arith) head (λ h. lines) in
+    record { stored = both .stored; short = omega (arith, both .short) }
+
+-- What is stored at the front of a slice is within it.
+pub front-stored : {old bytes new : List ℕ} {count : ℕ} → reportRoom ≤ length old → length new ≡ length old → StoredWithin old 0 reportRoom bytes new count → Front count new
+front-stored {new = new} {count = count} room same p =
+    let within : count ≤ length new = omega (arith, p .stored .place, p .short) in
+    record { within = within; front = sym (length-take-le count new within) }
 
 -- The table of an accepted load, and a setting slice that is long enough.
 pub table-ready : (left right : List ℕ) (room : LoadRoom) (loaded : Loaded) (tally : Tally) → loaded ≡ loadResult left right room → loaded ≡ Accepted tally

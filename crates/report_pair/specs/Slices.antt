@@ -5,7 +5,9 @@ use Rattle.compare_parts.specs.Code.{roomOfLists}
 use Rattle.report_model.specs.Report.{Lent, Report, programLimits}
 use Rattle.table.specs.Accepted.{Accepted}
 use Rattle.table.specs.Limits.{maxInputs}
+use lib.ListN.{length, take}
 use mathlib.Core.List.{List}
+use mathlib.Core.Path.{_≡_}
 
 -- The slices of the call, by the lists that they hold.
 abbrev pub lent : List ℕ → List ℕ → List ℕ → List ℕ → List ℕ → List ℕ → List ℕ → List ℕ → List ℕ → Lent
@@ -32,3 +34,8 @@ asked table output pairs look diagrams stages rows marks setting =
 pub record Ready (table : List ℕ) (setting : ℕ) : Type 0 where
   pub accepted : Accepted table
   pub room : maxInputs ≤ setting
+
+-- The report is within its slice, said in both ways that a caller who takes it from there needs.
+pub record Front (count : ℕ) (out : List ℕ) : Type 0 where
+  pub within : count ≤ length out
+  pub front : count ≡ length (take count out)

@@ -7,7 +7,7 @@ use report_model::REPORT_ROOM;
 use report_model::ROWS_ROOM;
 ghost use Rattle.compare_parts.specs.Code.{Unchanged};
 ghost use Rattle.report_model.specs.Report.{reportOf, shortRoom?, works?};
-ghost use Rattle.report_pair.specs.Slices.{lent, reportLeft};
+ghost use Rattle.report_pair.specs.Slices.{Front, lent, reportLeft};
 ghost use mathlib.Core.Bool.{false};
 ghost use mathlib.Core.Path.{_≡_};
 
@@ -28,6 +28,7 @@ pub fn report_pair(
     setting: &mut [u8],
 ) -> usize
     ensures { λ r. ⌜ reportLeft r (now (out .exit)) (now (table .exit)) (now (marks .exit)) (now (setting .exit)) ≡ reportOf (now (left .entry)) (now (right .entry)) (lent (now (out .entry)) (now (table .entry)) (now (pairs .entry)) (now (look .entry)) (now (diagrams .entry)) (now (stages .entry)) (now (rows .entry)) (now (marks .entry)) (now (setting .entry))) ⌝ }
+    ensures { λ r. ⌜ Front r (now (out .exit)) ⌝ }
     ensures { λ _. ⌜ (works? (now (left .entry)) (now (right .entry)) (lent (now (out .entry)) (now (table .entry)) (now (pairs .entry)) (now (look .entry)) (now (diagrams .entry)) (now (stages .entry)) (now (rows .entry)) (now (marks .entry)) (now (setting .entry))) ≡ false → Unchanged (now (pairs .entry)) (now (pairs .exit)) (now (look .entry)) (now (look .exit)) (now (diagrams .entry)) (now (diagrams .exit)) (now (stages .entry)) (now (stages .exit)) (now (rows .entry)) (now (rows .exit))) ⌝ }
 {
     if is_short(out.len(), rows.len(), marks.len(), setting.len()) {

@@ -10,7 +10,6 @@ ghost use Rattle.report_model.specs.Report.{after, comparisonLine, comparisons,
 ghost use Rattle.report_pair.specs.Slices.{Ready, asked};
 ghost use Rattle.reply_line.specs.Line.{lineFor};
 ghost use Rattle.table.specs.Table.{outputsOf};
-ghost use Rattle.text.specs.Decimal.{Stored};
 ghost use lib.ListN.{length, take};
 ghost use mathlib.Core.List.{_++_};
 ghost use mathlib.Core.Path.{_≡_};
@@ -29,7 +28,7 @@ pub fn report_table(
 ) -> usize
     requires { ⌜ Ready (now table) (length (now setting)) ⌝ }
     requires { ⌜ reportRoom ≤ length (now out) ⌝ }
-    ensures { λ r. ⌜ Stored (now (out .entry)) 0 (headLine ++ linesOf (comparisons (outputsOf (now (table .entry))) (asked (now (table .entry)) 0 (now (pairs .entry)) (now (look .entry)) (now (diagrams .entry)) (now (stages .entry)) (now (rows .entry)) (now (marks .entry)) (now (setting .entry))))) (now (out .exit)) r ⌝ }
+    ensures { λ r. ⌜ StoredWithin (now (out .entry)) 0 reportRoom (headLine ++ linesOf (comparisons (outputsOf (now (table .entry))) (asked (now (table .entry)) 0 (now (pairs .entry)) (now (look .entry)) (now (diagrams .entry)) (now (stages .entry)) (now (rows .entry)) (now (marks .entry)) (now (setting .entry))))) (now (out .exit)) r ⌝ }
     ensures { λ _. ⌜ asked (now (table .exit)) (outputsOf (now (table .entry))) (now (pairs .exit)) (now (look .exit)) (now (diagrams .exit)) (now (stages .exit)) (now (rows .exit)) (now (marks .exit)) (now (setting .exit)) ≡ after (outputsOf (now (table .entry))) (asked (now (table .entry)) 0 (now (pairs .entry)) (now (look .entry)) (now (diagrams .entry)) (now (stages .entry)) (now (rows .entry)) (now (marks .entry)) (now (setting .entry))) ⌝ }
 {
     let start = report::write_head(out);

@@ -5,7 +5,7 @@ use Rattle.load.specs.Lent.{working}
 use Rattle.report_model.proofs.ReportLaws.{long-enough, report-short, works-accepted}
 use Rattle.report_model.specs.Report.{Lent, loadRoom, programLimits, short?}
 use Rattle.report_pair.proofs.ComparedLaws.{same-room}
-use Rattle.report_pair.proofs.ReportLaws.{accepted-report, refused-report, refused-unchanged, table-ready}
+use Rattle.report_pair.proofs.ReportLaws.{accepted-report, front-stored, refused-report, refused-unchanged, table-ready}
 use Rattle.report_pair.proofs.report_pair.Statement.{statement}
 use Rattle.report_pair.proofs.report_pair.Tie as tie
 use Rattle.report_pair.specs.Slices.{lent}
@@ -25,7 +25,7 @@ returns c =
     let a = c .before .before .before .before .before .before .before .before .before .before .before .before .before .args in
     let l : Lent = lent (a .out .now) (a .table .now) (a .pairs .now) (a .look .now) (a .diagrams .now) (a .stages .now) (a .rows .now) (a .marks .now) (a .setting .now) in (
       sym (report-short (a .left .now) (a .right .now) l (sym (short .ensures) ∙ c .if1 .taken)),
-      λ h. record { pairs-kept = refl; look-kept = refl; diagrams-kept = refl; stages-kept = refl; rows-kept = refl },
+      (record { within = omega arith; front = refl }, λ h. record { pairs-kept = refl; look-kept = refl; diagrams-kept = refl; stages-kept = refl; rows-kept = refl }),
     )
 
 load-requires : tie.Need-load-requires
@@ -75,10 +75,11 @@ returns-2 c =
     let a = c .before .before .before .before .before .before .before .before .before .before .before .before .before .before .before .before .before .before .before .before .before .before .before .before .before .before .before .before .before .before .before .before .before .before .before .before .args in
     let l : Lent = lent (a .out .now) (a .table .now) (a .pairs .now) (a .look .now) (a .diagrams .now) (a .stages .now) (a .rows .now) (a .marks .now) (a .setting .now) in
     let long : short? l ≡ false = sym (c .before .before .before .before .before .before .before .before .before .before .before .before .before .before .before .before .before .before .before .before .before .before .before .before .is-short .ensures) ∙ c .before .before .before .before .before .before .before .before .before .before .before .before .before .before .before .before .before .before .before .before .before .before .before .if1 .left in
+    let write = c .before .before .write-refused .ensures in
     let bounds = long-enough (length (a .out .now)) (length (a .rows .now)) (length (a .marks .now)) (length (a .setting .now)) long in (
       refused-report (a .left .now) (a .right .now) l long (load .result) (load .ensures .0) (load .last .1 .1 .0) (load .ensures .1 .0) _ _ _ told (omega (arith, bounds .out)) _ _
-          (c .before .before .write-refused .ensures),
-      λ h. refused-unchanged (load .result) told (working (a .pairs .now) (a .look .now) (a .diagrams .now) (a .stages .now)) _ (load .ensures .1 .1) (a .rows .now),
+          write,
+      (record { within = write .within; front = write .front }, λ h. refused-unchanged (load .result) told (working (a .pairs .now) (a .look .now) (a .diagrams .now) (a .stages .now)) _ (load .ensures .1 .1) (a .rows .now)),
     )
 
 same-length-7 : tie.Need-same-length-7
@@ -120,8 +121,8 @@ returns-3 c =
       accepted-report (a .left .now) (a .right .now) l long (load .result) (load .ensures .0) (load .last .1 .1 .0) (load .ensures .1 .0) _ told _ _ _ (table .result)
           (ap (λ (r : Room). record { table = load .last .1 .1 .0; output = 0; limits = programLimits; room = r; marks = a .marks .now; setting = a .setting .now })
           (same-room (c .before .before .before .before .before .before .before .before .before .before .before .before .before .before .before .before .before .before .before .before .before .before .before .before .before .before .before .before .before .before .before .before .before .before .before .before .before .pairs .given) (c .before .before .before .before .before .before .before .before .before .before .before .before .before .before .before .before .before .before .before .before .before .before .before .before .before .before .before .before .before .before .before .before .before .before .before .look .given) (c .before .before .before .before .before .before .before .before .before .before .before .before .before .before .before .before .before .before .before .before .before .before .before .before .before .before .before .before .before .before .before .before .before .diagrams .given) (c .before .before .before .before .before .before .before .before .before .before .before .before .before .before .before .before .before .before .before .before .before .before .before .before .before .before .before .before .before .before .before .stages .given) refl))
-          (table .ensures .0) (table .ensures .1),
-      λ h. clash (works-accepted (a .left .now) (a .right .now) l long _ (sym (load .ensures .0) ∙ told)) h,
+          (table .ensures .0 .stored) (table .ensures .1),
+      (front-stored (bounds .out) (c .before .before .before .before .before .before .before .before .before .before .before .before .before .before .before .before .before .out2 .given) (table .ensures .0), λ h. clash (works-accepted (a .left .now) (a .right .now) l long _ (sym (load .ensures .0) ∙ told)) h),
     )
 
 pub report-pair-spec : {M : Type 1} → statement M
