@@ -1,0 +1,63 @@
+-- The report by cases: slices that are too short, a refused load, an accepted one.
+use Prim.Native.Nat.{_*_, _≤_, ℕ}
+use Rattle.loader.proofs.LoadLaws.{load-only, load-table}
+use Rattle.loader.proofs.TableLaws.{table-accepted}
+use Rattle.loader.specs.Load.{Room, loadResult, maxVertices, tableAfter}
+use Rattle.loader.specs.declared.Loaded.the-variants as load
+use Rattle.loader.specs.declared.Loaded.{Loaded}
+use Rattle.loader.specs.declared.Tally.{Tally}
+use Rattle.netlist.specs.Check.{readNetlist}
+use Rattle.report_model.specs.Report.{Lent, firstOf, loadRoom, reportOf, reportRoom, reported, rowLimit, short?, shortRoom?, untouched, works?}
+use Rattle.table.proofs.RefusalLaws.{neither}
+use Rattle.table.specs.Accepted.{Accepted}
+use Rattle.table.specs.Limits.{maxInputs}
+use borrow.Author.Tests.{ltb-false}
+use lib.Dec.{ltb}
+use mathlib.Core.Bool.{_||_, false, true}
+use mathlib.Core.List.{List}
+use mathlib.Core.Path.{_≡_, refl}
+
+-- The slices are long enough.
+pub record Long (o r m s : ℕ) : Type 0 where
+  pub out : reportRoom ≤ o
+  pub rows : 4 * rowLimit ≤ r
+  pub marks : maxVertices ≤ m
+  pub setting : maxInputs ≤ s
+
+pub long-enough : (out rows marks setting : ℕ) → shortRoom? out rows marks setting ≡ false → Long out rows marks setting
+unfolding shortRoom?
+long-enough out rows marks setting h =
+    let p = neither (ltb out reportRoom || ltb rows (4 * rowLimit) || ltb marks maxVertices) (ltb setting maxInputs) h in
+    let q = neither (ltb out reportRoom || ltb rows (4 * rowLimit)) (ltb marks maxVertices) (p .0) in
+    let r = neither (ltb out reportRoom) (ltb rows (4 * rowLimit)) (q .0) in
+    record {
+      out = ltb-false out reportRoom (r .0);
+      rows = ltb-false rows (4 * rowLimit) (r .1);
+      marks = ltb-false marks maxVertices (q .1);
+      setting = ltb-false setting maxInputs (p .1);
+    }
+
+-- The table of an accepted load passes tests 10 and 11.
+pub loaded-accepted : (left right : List ℕ) (room : Room) (t : Tally) (old : List ℕ) → loadResult left right room ≡ load.Accepted t
+    → Accepted (tableAfter (loadResult left right room) (readNetlist left) (readNetlist right) old)
+loaded-accepted left right room t old e =
+    let h = load-only left right room t e in
+    rw (load-table h old) (table-accepted (h .first) (h .second) (h .loadable) old)
+
+module _ (left right : List ℕ) (lent : Lent) where
+  -- Where a slice is too short nothing is written.
+  pub report-short : short? lent ≡ true → reportOf left right lent ≡ untouched lent
+  unfolding reportOf
+  report-short h = rw h refl
+
+  module _ (long : short? lent ≡ false) (loaded : Loaded) (e : loadResult left right (loadRoom lent) ≡ loaded) (table : List ℕ)
+      (t : table ≡ tableAfter loaded (readNetlist left) (readNetlist right) (lent .table)) where
+    -- Otherwise the load decides.
+    pub report-loaded : reportOf left right lent ≡ reported loaded (firstOf lent table) (lent .out)
+    unfolding reportOf
+    report-loaded = rw (long, e, t) refl
+
+  -- Where the load is accepted the slices to work in are worked in.
+  pub works-accepted : short? lent ≡ false → (t : Tally) → loadResult left right (loadRoom lent) ≡ load.Accepted t → works? left right lent ≡ true
+  unfolding works?
+  works-accepted long t e = rw (long, e) refl

@@ -1,0 +1,146 @@
+-- The report that the program prints of two files, and what its call leaves in the slices that it is lent.
+use Prim.Native.Nat.{_*_, _+_, suc, zero, ℕ}
+use Rattle.compare_model.specs.Compare.{Given, Room, compared, overFront}
+use Rattle.loader.specs.Load.{Room as LoadRoom, loadResult, maxVertices, tableAfter}
+use Rattle.loader.specs.declared.Loaded.the-variants.{Accepted, Refused}
+use Rattle.loader.specs.declared.Loaded.{Loaded}
+use Rattle.netlist.specs.Check.{readNetlist}
+use Rattle.reply_line.specs.Line.{lineFor}
+use Rattle.report.specs.Report.{LINE-ROOM, headLine, refusedLine}
+use Rattle.sweep_model.specs.State.{Limits}
+use Rattle.table.specs.Limits.{maxInputs, maxOutputs}
+use Rattle.table.specs.Table.{inputsOf, outputsOf}
+use lib.Dec.{ltb}
+use lib.ListN.{length, take}
+use mathlib.Core.Bool.{Bool, _&&_, _||_, cond, false, not, true}
+use mathlib.Core.List.{List, [], _++_, _∷_}
+
+-- "with size and row limits 4,096 and step limit 1,000,000"
+abbrev pub sizeLimit : ℕ
+sizeLimit = 4096
+
+abbrev pub rowLimit : ℕ
+rowLimit = 4096
+
+abbrev pub stepLimit : ℕ
+stepLimit = 1000000
+
+abbrev pub programLimits : Limits
+programLimits = record { size = sizeLimit; rows = rowLimit; steps = stepLimit }
+
+-- The most bytes of a line of a reply: its setting has a byte an input.
+abbrev pub replyRoom : ℕ
+replyRoom = LINE-ROOM + maxInputs
+
+-- The most bytes of a report: "a head line, then a line each", of at most 64 outputs.
+abbrev pub reportRoom : ℕ
+reportRoom = LINE-ROOM + maxOutputs * replyRoom
+
+-- What the call is lent beside the two files: the slice for the report, the table, the lengths of the slices to work in, the marks and
+-- the setting.
+pub record Lent : Type 0 where
+  pub out : List ℕ
+  pub table : List ℕ
+  pub room : Room
+  pub marks : List ℕ
+  pub setting : List ℕ
+
+-- What it gives back, the number of the report's bytes, and what it leaves.
+pub record Report : Type 0 where
+  pub count : ℕ
+  pub out : List ℕ
+  pub table : List ℕ
+  pub marks : List ℕ
+  pub setting : List ℕ
+
+-- The comparison after another: that of the next output, on the slices as the one before left them.
+unfoldable pub next : Given → Given
+next g =
+    let left = compared g in
+    record {
+      table = left .table;
+      output = g .output + 1;
+      limits = g .limits;
+      room = g .room;
+      marks = left .marks;
+      setting = left .setting;
+    }
+
+-- The comparison that comes n after a first one.
+unfoldable pub after : ℕ → Given → Given
+after zero g = g
+after (suc n) g = next (after n g)
+
+-- "compares every output in rising number": n comparisons, from a first one on.
+unfoldable pub comparisons : ℕ → Given → List Given
+comparisons zero g = []
+comparisons (suc n) g = g ∷ comparisons n (next g)
+
+-- "then a line each": the line of a comparison. A Different's setting is "one byte an input .. to the front of the lent setting slice".
+unfoldable pub comparisonLine : Given → List ℕ
+comparisonLine g = let left = compared g in lineFor (g .output) (left .reply) (take (inputsOf (g .table)) (left .setting))
+
+-- The lines of comparisons.
+unfoldable pub linesOf : List Given → List ℕ
+linesOf [] = []
+linesOf (g ∷ gs) = comparisonLine g ++ linesOf gs
+
+-- "loads once, compares every output": as many comparisons as the table has outputs, and none after a refused load.
+abbrev pub comparisonCount : Loaded → List ℕ → ℕ
+comparisonCount (Refused number file line) table = 0
+comparisonCount (Accepted tally) table = outputsOf table
+
+-- "prints a head line, then a line each." "A refused load prints only `refused⇥number⇥file⇥line`."
+abbrev pub reportBytes : Loaded → List Given → List ℕ
+reportBytes (Refused number file line) gs = refusedLine number file line
+reportBytes (Accepted tally) gs = headLine ++ linesOf gs
+
+-- A report at the front of its slice, the bytes after it unchanged; the other slices as the last comparison left them.
+unfoldable pub reported : Loaded → Given → List ℕ → Report
+reported loaded first out =
+    let n = comparisonCount loaded (first .table) in
+    let bytes = reportBytes loaded (comparisons n first) in
+    let last = after n first in
+    record { count = length bytes; out = overFront bytes out; table = last .table; marks = last .marks; setting = last .setting }
+
+-- The first comparison, on the table as loaded.
+abbrev pub firstOf : Lent → List ℕ → Given
+firstOf lent table =
+    record { table = table; output = 0; limits = programLimits; room = lent .room; marks = lent .marks; setting = lent .setting }
+
+-- The slices that load is lent: the table, and four of those to work in.
+abbrev pub loadRoom : Lent → LoadRoom
+loadRoom lent =
+    record {
+      table = length (lent .table);
+      pairs = lent .room .pairs;
+      look = lent .room .look;
+      literals = lent .room .diagrams;
+      outputs = lent .room .stages;
+    }
+
+-- The slice for the report, the rows, the marks or the setting is too short for some pair of files.
+unfoldable pub shortRoom? : ℕ → ℕ → ℕ → ℕ → Bool
+shortRoom? out rows marks setting = ltb out reportRoom || ltb rows (4 * rowLimit) || ltb marks maxVertices || ltb setting maxInputs
+
+abbrev pub short? : Lent → Bool
+short? lent = shortRoom? (length (lent .out)) (lent .room .rows) (length (lent .marks)) (length (lent .setting))
+
+-- Then nothing is written.
+abbrev pub untouched : Lent → Report
+untouched lent = record { count = 0; out = lent .out; table = lent .table; marks = lent .marks; setting = lent .setting }
+
+-- "The program `compare` .. loads once, compares every output in rising number and prints": the report of two files.
+unfoldable pub reportOf : List ℕ → List ℕ → Lent → Report
+reportOf left right lent =
+    let loaded = loadResult left right (loadRoom lent) in
+    let table = tableAfter loaded (readNetlist left) (readNetlist right) (lent .table) in
+    cond (short? lent) (untouched lent) (reported loaded (firstOf lent table) (lent .out))
+
+abbrev pub accepted? : Loaded → Bool
+accepted? (Refused number file line) = false
+accepted? (Accepted tally) = true
+
+-- Whether the slices to work in are worked in: no slice is too short, and the load is not refused.
+unfoldable pub works? : List ℕ → List ℕ → Lent → Bool
+works? left right lent = not (short? lent) && accepted? (loadResult left right (loadRoom lent))

@@ -1,0 +1,4 @@
+pub mod ComparedLaws
+pub mod PartLaws
+pub mod PrintingLaws
+pub mod ReportLaws

@@ -1,0 +1,95 @@
+-- What the call gives back and leaves is the report.
+use Prim.Native.Nat.{_*_, _+_, _≤_, ℕ}
+use Rattle.compare_model.specs.Compare.{Given, overFront}
+use Rattle.compare_parts.specs.Code.{Unchanged}
+use Rattle.load.specs.Lent.{Kept, Working}
+use Rattle.loader.specs.Load.{Room as LoadRoom, loadResult, tableAfter}
+use Rattle.loader.specs.declared.Loaded.the-variants.{Accepted, Refused}
+use Rattle.loader.specs.declared.Loaded.{Loaded}
+use Rattle.loader.specs.declared.Tally.{Tally}
+use Rattle.netlist.specs.Check.{readNetlist}
+use Rattle.report.proofs.StoredLaws.{stored-next}
+use Rattle.report.specs.Report.{LINE-ROOM, Printed, StoredWithin, headLine, lineLength, linePut, refusedLine}
+use Rattle.report_model.proofs.ReportLaws.{loaded-accepted, report-loaded}
+use Rattle.report_model.specs.Report.{Lent, after, comparisons, firstOf, linesOf, loadRoom, replyRoom, reportOf, reportRoom, reported, short?}
+use Rattle.report_pair.specs.Slices.{Front, Ready, reportLeft}
+use Rattle.table.specs.Limits.{maxInputs, maxOutputs}
+use Rattle.table.specs.Table.{outputsOf}
+use Rattle.text.specs.Decimal.{Stored, written}
+use borrow.Author.Tests.{le-ltb}
+use lib.ListN.{length}
+use lib.Seq.{length-take-le}
+use mathlib.Core.Bool.{false}
+use mathlib.Core.List.{List, _++_}
+use mathlib.Core.Path.{_∙_, _≡_, ap, ap₂, refl, sym}
+use native.Mathlib.Omega.{arith}
+
+-- The head line put at the front of a slice is stored there.
+pub head-stored : {old new : List ℕ} {n : ℕ} → reportRoom ≤ length old → Printed LINE-ROOM headLine old new n → StoredWithin old 0 LINE-ROOM headLine new n
+unfolding linePut lineLength written headLine
+head-stored {old} h p =
+    let test = le-ltb (length old) LINE-ROOM (omega arith) in
+    record { stored = record { place = rw test at (p .count); list = rw test at (p .list) }; short = omega arith }
+
+-- The lines are stored after it.
+pub head-and-lines : {old mid lines new : List ℕ} {start end : ℕ} (outputs : ℕ) → reportRoom ≤ length old → outputs ≤ maxOutputs
+    → StoredWithin old 0 LINE-ROOM headLine mid start → StoredWithin mid start (outputs * replyRoom) lines new end
+    → StoredWithin old 0 reportRoom (headLine ++ lines) new end
+head-and-lines outputs room bound head lines =
+    let both = stored-next (outputs * replyRoom) (omega arith) head (λ h. lines) in
+    record { stored = both .stored; short = omega (arith, both .short) }
+
+-- What is stored at the front of a slice is within it.
+pub front-stored : {old bytes new : List ℕ} {count : ℕ} → reportRoom ≤ length old → length new ≡ length old → StoredWithin old 0 reportRoom bytes new count → Front count new
+front-stored {new = new} {count = count} room same p =
+    let within : count ≤ length new = omega (arith, p .stored .place, p .short) in
+    record { within = within; front = sym (length-take-le count new within) }
+
+-- The table of an accepted load, and a setting slice that is long enough.
+pub table-ready : (left right : List ℕ) (room : LoadRoom) (loaded : Loaded) (tally : Tally) → loaded ≡ loadResult left right room → loaded ≡ Accepted tally
+    → (table old : List ℕ) → table ≡ tableAfter loaded (readNetlist left) (readNetlist right) old → {setting : ℕ} → maxInputs ≤ setting → Ready table setting
+table-ready left right room loaded tally e f table old t long =
+    record { accepted = rw (t, e) (loaded-accepted left right room tally old (sym e ∙ f)); room = long }
+
+module _ (left right : List ℕ) (lent : Lent) (long : short? lent ≡ false) (loaded : Loaded) (e : loaded ≡ loadResult left right (loadRoom lent)) (table : List ℕ)
+    (t : table ≡ tableAfter loaded (readNetlist left) (readNetlist right) (lent .table)) where
+  -- The line of a refused load.
+  pub refused-report : (number file line : ℕ) → loaded ≡ Refused number file line → LINE-ROOM ≤ length (lent .out) → (out : List ℕ) (count : ℕ)
+      → Printed LINE-ROOM (refusedLine number file line) (lent .out) out count
+      → reportLeft count out table (lent .marks) (lent .setting) ≡ reportOf left right lent
+  unfolding reported after linePut lineLength
+  refused-report number file line f room out count p =
+      let test = le-ltb (length (lent .out)) LINE-ROOM room in
+      let list : out ≡ overFront (refusedLine number file line) (lent .out) = rw test at (p .list) in
+      let size : count ≡ length (refusedLine number file line) = rw test at (p .count) in
+      ap₂ (λ (n : ℕ) (bytes : List ℕ). reportLeft n bytes table (lent .marks) (lent .setting)) size list
+      ∙ sym (report-loaded left right lent long (Refused number file line) (sym e ∙ f) table (rw f at t))
+
+  -- The head line and the lines of an accepted load.
+  pub accepted-report : (tally : Tally) → loaded ≡ Accepted tally → (first last : Given) (out : List ℕ) (count : ℕ) → first ≡ firstOf lent table
+      → Stored (lent .out) 0 (headLine ++ linesOf (comparisons (outputsOf table) first)) out count → last ≡ after (outputsOf table) first
+      → reportLeft count out (last .table) (last .marks) (last .setting) ≡ reportOf left right lent
+  unfolding reported written
+  accepted-report tally f first last out count g p l =
+      let bytes : List ℕ = headLine ++ linesOf (comparisons (outputsOf table) (firstOf lent table)) in
+      let same : headLine ++ linesOf (comparisons (outputsOf table) first) ≡ bytes = rw g refl in
+      let z : 0 + length bytes ≡ length bytes = omega arith in
+      let size : count ≡ length bytes = p .place ∙ rw same z in
+      let list : out ≡ overFront bytes (lent .out) = rw (same, z) at (p .list) in
+      ap₂ (λ (n : ℕ) (new : List ℕ). reportLeft n new (last .table) (last .marks) (last .setting)) size list
+      ∙ ap (λ (g : Given). reportLeft (length bytes) (overFront bytes (lent .out)) (g .table) (g .marks) (g .setting)) (l ∙ ap (after (outputsOf table)) g)
+      ∙ sym (report-loaded left right lent long (Accepted tally) (sym e ∙ f) table (rw f at t))
+
+-- A refused load leaves the slices to work in.
+pub refused-unchanged : (loaded : Loaded) {number file line : ℕ} → loaded ≡ Refused number file line → (before after : Working) → Kept loaded before after
+    → (rows : List ℕ)
+    → Unchanged (before .pairs) (after .pairs) (before .look) (after .look) (before .literals) (after .literals) (before .outputs) (after .outputs) rows rows
+refused-unchanged loaded e before after k rows =
+    let same : after ≡ before = rw e at k in
+    record {
+      pairs-kept = ap (λ (w : Working). w .pairs) same;
+      look-kept = ap (λ (w : Working). w .look) same;
+      diagrams-kept = ap (λ (w : Working). w .literals) same;
+      stages-kept = ap (λ (w : Working). w .outputs) same;
+      rows-kept = refl;
+    }

@@ -1,0 +1,116 @@
+-- From turn to turn the lines of the comparisons made so far are stored, and the slices hold what the last of them left.
+-- The measure is how many outputs are left.
+use Prim.Native.Nat.{_-_, _≤_}
+use Rattle.compare_model.specs.Compare.{Room}
+use Rattle.report_pair.proofs.ComparedLaws.{same-room}
+use Rattle.report_pair.proofs.PrintingLaws.{Printing, here-ready, line-room, printing-end, printing-length, printing-more, printing-none}
+use Rattle.report_pair.proofs.lines.report_outputs.Statement.{statement}
+use Rattle.report_pair.proofs.lines.report_outputs.Tie as tie
+use Rattle.report_pair.specs.Slices.{asked}
+use mathlib.Core.Path.{_∙_, ap, refl}
+use native.Mathlib.Omega.{arith}
+
+abbrev Inv-loop : tie.InvT-loop
+Inv-loop out₀ start outputs table₀ pairs₀ look₀ diagrams₀ stages₀ rows₀ marks₀ setting₀ at₀ output₀ out table pairs look diagrams stages rows marks setting at output =
+    Printing (asked table₀ 0 pairs₀ look₀ diagrams₀ stages₀ rows₀ marks₀ setting₀) (asked table output pairs look diagrams stages rows marks setting) out₀ start out at × (output ≤ outputs)
+
+abbrev μ-loop : tie.MeasureT-loop
+μ-loop out₀ start outputs table₀ pairs₀ look₀ diagrams₀ stages₀ rows₀ marks₀ setting₀ at₀ output₀ out table pairs look diagrams stages rows marks setting at output =
+    outputs - output
+
+loop-holds : tie.Need-loop-holds Inv-loop μ-loop
+loop-holds c = (printing-none _ _ _ refl, omega arith)
+
+report-output-requires : tie.Need-report-output-requires Inv-loop μ-loop
+report-output-requires c κs =
+    let turn = c .before .before .before .before .before .before .before .before .before .loop-test .taken in
+    let loop = c .before .before .before .before .before .before .before .before .before .before .loop in
+    let start = c .before .before .before .before .before .before .before .before .before .before .before .before .before .before .before .before .before .before .before .before in
+    let n = start .args .outputs in
+    (here-ready (loop .inv .0) n turn (start .pre .1 .1) (start .pre .0), line-room (loop .inv .0) n turn (start .pre .1 .1))
+
+add-output : tie.Need-add-output Inv-loop μ-loop
+add-output c =
+    let start = c .before .before .before .before .before .before .before .before .before .before .before .before .before .before .before .before .before .before .before .before .before .before .before .before .before .before .before .before .before .before .before .before .before .before .before .before .before .before .before in
+    omega (arith, c .before .before .before .before .before .before .before .before .before .before .before .before .before .before .before .before .before .before .before .before .before .before .before .before .before .before .before .before .loop-test .taken, start .pre .0 .accepted .formed .outputs, start .pre .1 .0)
+
+loop-less : tie.Need-loop-less Inv-loop μ-loop
+loop-less c = omega (arith, c .before .before .before .before .before .before .before .before .before .before .before .before .before .before .before .before .before .before .before .before .before .before .before .before .before .before .before .before .loop-test .taken)
+
+loop-again : tie.Need-loop-again Inv-loop μ-loop
+loop-again c =
+    let line = c .before .before .before .before .before .before .before .before .before .before .before .before .before .before .before .before .before .before .report-output in
+    let turn = c .before .before .before .before .before .before .before .before .before .before .before .before .before .before .before .before .before .before .before .before .before .before .before .before .before .before .before .before .loop-test .taken in
+    let p = c .before .before .before .before .before .before .before .before .before .before .before .before .before .before .before .before .before .before .before .before .before .before .before .before .before .before .before .before .before .loop .inv .0 in
+    let start = c .before .before .before .before .before .before .before .before .before .before .before .before .before .before .before .before .before .before .before .before .before .before .before .before .before .before .before .before .before .before .before .before .before .before .before .before .before .before .before in (
+      printing-more p (start .args .outputs) turn (start .pre .1 .1) (line .ensures .1)
+          (record {
+            room =
+                same-room (c .before .before .before .before .before .before .before .before .before .before .before .before .before .pairs .given) (c .before .before .before .before .before .before .before .before .before .before .before .look .given) (c .before .before .before .before .before .before .before .before .before .diagrams .given) (c .before .before .before .before .before .before .before .stages .given) (c .before .before .before .before .before .rows .given)
+                ∙ p .same .room;
+            table = c .before .before .before .before .before .before .before .before .before .before .before .before .before .before .before .table .given ∙ p .same .table;
+            marks = c .before .before .before .marks .given ∙ p .same .marks;
+            setting = c .before .setting .given ∙ p .same .setting;
+          })
+          (line .ensures .0),
+      omega (arith, turn),
+    )
+
+same-length : tie.Need-same-length Inv-loop μ-loop
+same-length c =
+    let loop = c .before .loop in
+    let start = c .before .before .before .before .before .before .before .before .before .before .before in
+    printing-length (loop .inv .0) (start .args .outputs) (loop .inv .1) (start .pre .1 .1)
+
+same-length-2 : tie.Need-same-length-2 Inv-loop μ-loop
+same-length-2 c = c .before .loop .inv .0 .same .table
+
+same-length-3 : tie.Need-same-length-3 Inv-loop μ-loop
+same-length-3 c = ap (λ (r : Room). r .pairs) (c .before .loop .inv .0 .same .room)
+
+same-length-4 : tie.Need-same-length-4 Inv-loop μ-loop
+same-length-4 c = ap (λ (r : Room). r .look) (c .before .loop .inv .0 .same .room)
+
+same-length-5 : tie.Need-same-length-5 Inv-loop μ-loop
+same-length-5 c = ap (λ (r : Room). r .diagrams) (c .before .loop .inv .0 .same .room)
+
+same-length-6 : tie.Need-same-length-6 Inv-loop μ-loop
+same-length-6 c = ap (λ (r : Room). r .stages) (c .before .loop .inv .0 .same .room)
+
+same-length-7 : tie.Need-same-length-7 Inv-loop μ-loop
+same-length-7 c = ap (λ (r : Room). r .rows) (c .before .loop .inv .0 .same .room)
+
+same-length-8 : tie.Need-same-length-8 Inv-loop μ-loop
+same-length-8 c = c .before .loop .inv .0 .same .marks
+
+same-length-9 : tie.Need-same-length-9 Inv-loop μ-loop
+same-length-9 c = c .before .loop .inv .0 .same .setting
+
+returns : tie.Need-returns Inv-loop μ-loop
+returns c =
+    let loop = c .before .loop in
+    let p = loop .inv .0 in
+    let a = c .before .before .before .before .before .before .before .before .before .before .before .args in
+    printing-end p (a .outputs) (omega (arith, c .loop-test .left, loop .inv .1))
+
+pub report-outputs-spec : {M : Type 1} → statement M
+report-outputs-spec =
+    tie.close
+    (tie.spec
+    Inv-loop
+    μ-loop
+    loop-holds
+    report-output-requires
+    add-output
+    loop-less
+    loop-again
+    same-length
+    same-length-2
+    same-length-3
+    same-length-4
+    same-length-5
+    same-length-6
+    same-length-7
+    same-length-8
+    same-length-9
+    returns)

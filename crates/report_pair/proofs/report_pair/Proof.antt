@@ -1,0 +1,155 @@
+-- The slices that are too short, then the load, decide; no loop.
+-- Each return is a case of the report.
+use Rattle.compare_model.specs.Compare.{Room}
+use Rattle.load.specs.Lent.{working}
+use Rattle.report_model.proofs.ReportLaws.{long-enough, report-short, works-accepted}
+use Rattle.report_model.specs.Report.{Lent, loadRoom, programLimits, short?}
+use Rattle.report_pair.proofs.ComparedLaws.{same-room}
+use Rattle.report_pair.proofs.ReportLaws.{accepted-report, front-stored, refused-report, refused-unchanged, table-ready}
+use Rattle.report_pair.proofs.report_pair.Statement.{statement}
+use Rattle.report_pair.proofs.report_pair.Tie as tie
+use Rattle.report_pair.specs.Slices.{lent}
+use Rattle.truth.proofs.Booleans.{clash}
+use borrow.Author.Needs.{needs}
+use lib.ListN.{length}
+use mathlib.Core.Bool.{false}
+use mathlib.Core.Path.{_∙_, _≡_, ap, refl, sym}
+use native.Mathlib.Omega.{arith}
+
+is-short-requires : tie.Need-is-short-requires
+is-short-requires c κs = search needs
+
+returns : tie.Need-returns
+returns c =
+    let short = c .before .is-short in
+    let a = c .before .before .before .before .before .before .before .before .before .before .before .before .before .args in
+    let l : Lent = lent (a .out .now) (a .table .now) (a .pairs .now) (a .look .now) (a .diagrams .now) (a .stages .now) (a .rows .now) (a .marks .now) (a .setting .now) in (
+      sym (report-short (a .left .now) (a .right .now) l (sym (short .ensures) ∙ c .if1 .taken)),
+      (record { within = omega arith; front = refl }, λ h. record { pairs-kept = refl; look-kept = refl; diagrams-kept = refl; stages-kept = refl; rows-kept = refl }),
+    )
+
+load-requires : tie.Need-load-requires
+load-requires c κs = search needs
+
+enum-known-loaded : tie.Need-enum-known-loaded
+enum-known-loaded c = search needs
+
+write-refused-requires : tie.Need-write-refused-requires
+write-refused-requires c κs = search needs
+
+enum-told : tie.Need-enum-told
+enum-told c = search needs
+
+report-table-requires : tie.Need-report-table-requires
+report-table-requires c κs =
+    let told = c .before .before .before .before .before .before .before .before .before .enum-told .given .1 in
+    let load = c .before .before .before .before .before .before .before .before .before .before .before .before .before .before .before .before .before .before .before .before .before .load in
+    let a = c .before .before .before .before .before .before .before .before .before .before .before .before .before .before .before .before .before .before .before .before .before .before .before .before .before .before .before .before .before .before .before .before .before .before .before .before .before .before .before .before .args in
+    let l : Lent = lent (a .out .now) (a .table .now) (a .pairs .now) (a .look .now) (a .diagrams .now) (a .stages .now) (a .rows .now) (a .marks .now) (a .setting .now) in
+    let long : short? l ≡ false = sym (c .before .before .before .before .before .before .before .before .before .before .before .before .before .before .before .before .before .before .before .before .before .before .before .before .before .before .before .before .is-short .ensures) ∙ c .before .before .before .before .before .before .before .before .before .before .before .before .before .before .before .before .before .before .before .before .before .before .before .before .before .before .before .if1 .left in
+    let bounds = long-enough (length (a .out .now)) (length (a .rows .now)) (length (a .marks .now)) (length (a .setting .now)) long in
+    (table-ready (a .left .now) (a .right .now) (loadRoom l) (load .result) _ (load .ensures .0) told (load .last .1 .1 .0) (a .table .now) (load .ensures .1 .0) (bounds .setting), bounds .out)
+
+same-length : tie.Need-same-length
+same-length c = search needs
+
+same-length-2 : tie.Need-same-length-2
+same-length-2 c = search needs
+
+same-length-3 : tie.Need-same-length-3
+same-length-3 c = search needs
+
+same-length-4 : tie.Need-same-length-4
+same-length-4 c = search needs
+
+same-length-5 : tie.Need-same-length-5
+same-length-5 c = search needs
+
+same-length-6 : tie.Need-same-length-6
+same-length-6 c = search needs
+
+returns-2 : tie.Need-returns-2
+returns-2 c =
+    let told = c .before .before .before .before .before .loaded .given .1 in
+    let load = c .before .before .before .before .before .before .before .before .before .before .before .before .before .before .before .before .before .load in
+    let a = c .before .before .before .before .before .before .before .before .before .before .before .before .before .before .before .before .before .before .before .before .before .before .before .before .before .before .before .before .before .before .before .before .before .before .before .before .args in
+    let l : Lent = lent (a .out .now) (a .table .now) (a .pairs .now) (a .look .now) (a .diagrams .now) (a .stages .now) (a .rows .now) (a .marks .now) (a .setting .now) in
+    let long : short? l ≡ false = sym (c .before .before .before .before .before .before .before .before .before .before .before .before .before .before .before .before .before .before .before .before .before .before .before .before .is-short .ensures) ∙ c .before .before .before .before .before .before .before .before .before .before .before .before .before .before .before .before .before .before .before .before .before .before .before .if1 .left in
+    let write = c .before .before .write-refused .ensures in
+    let bounds = long-enough (length (a .out .now)) (length (a .rows .now)) (length (a .marks .now)) (length (a .setting .now)) long in (
+      refused-report (a .left .now) (a .right .now) l long (load .result) (load .ensures .0) (load .last .1 .1 .0) (load .ensures .1 .0) _ _ _ told (omega (arith, bounds .out)) _ _
+          write,
+      (record { within = write .within; front = write .front }, λ h. refused-unchanged (load .result) told (working (a .pairs .now) (a .look .now) (a .diagrams .now) (a .stages .now)) _ (load .ensures .1 .1) (a .rows .now)),
+    )
+
+same-length-7 : tie.Need-same-length-7
+same-length-7 c = search needs
+
+same-length-8 : tie.Need-same-length-8
+same-length-8 c = search needs
+
+same-length-9 : tie.Need-same-length-9
+same-length-9 c = search needs
+
+same-length-10 : tie.Need-same-length-10
+same-length-10 c = search needs
+
+same-length-11 : tie.Need-same-length-11
+same-length-11 c = search needs
+
+same-length-12 : tie.Need-same-length-12
+same-length-12 c = search needs
+
+same-length-13 : tie.Need-same-length-13
+same-length-13 c = search needs
+
+same-length-14 : tie.Need-same-length-14
+same-length-14 c = search needs
+
+same-length-15 : tie.Need-same-length-15
+same-length-15 c = search needs
+
+returns-3 : tie.Need-returns-3
+returns-3 c =
+    let told = c .before .before .before .before .before .before .before .before .before .before .before .before .before .before .before .before .before .before .before .before .before .before .before .before .before .before .before .before .enum-told .given .1 in
+    let load = c .before .before .before .before .before .before .before .before .before .before .before .before .before .before .before .before .before .before .before .before .before .before .before .before .before .before .before .before .before .before .before .before .before .before .before .before .before .before .before .before .load in
+    let a = c .before .before .before .before .before .before .before .before .before .before .before .before .before .before .before .before .before .before .before .before .before .before .before .before .before .before .before .before .before .before .before .before .before .before .before .before .before .before .before .before .before .before .before .before .before .before .before .before .before .before .before .before .before .before .before .before .before .before .before .args in
+    let l : Lent = lent (a .out .now) (a .table .now) (a .pairs .now) (a .look .now) (a .diagrams .now) (a .stages .now) (a .rows .now) (a .marks .now) (a .setting .now) in
+    let long : short? l ≡ false = sym (c .before .before .before .before .before .before .before .before .before .before .before .before .before .before .before .before .before .before .before .before .before .before .before .before .before .before .before .before .before .before .before .before .before .before .before .before .before .before .before .before .before .before .before .before .before .before .before .is-short .ensures) ∙ c .before .before .before .before .before .before .before .before .before .before .before .before .before .before .before .before .before .before .before .before .before .before .before .before .before .before .before .before .before .before .before .before .before .before .before .before .before .before .before .before .before .before .before .before .before .before .if1 .left in
+    let bounds = long-enough (length (a .out .now)) (length (a .rows .now)) (length (a .marks .now)) (length (a .setting .now)) long in
+    let table = c .before .before .before .before .before .before .before .before .before .before .before .before .before .before .before .before .before .before .report-table in (
+      accepted-report (a .left .now) (a .right .now) l long (load .result) (load .ensures .0) (load .last .1 .1 .0) (load .ensures .1 .0) _ told _ _ _ (table .result)
+          (ap (λ (r : Room). record { table = load .last .1 .1 .0; output = 0; limits = programLimits; room = r; marks = a .marks .now; setting = a .setting .now })
+          (same-room (c .before .before .before .before .before .before .before .before .before .before .before .before .before .before .before .before .before .before .before .before .before .before .before .before .before .before .before .before .before .before .before .before .before .before .before .before .before .pairs .given) (c .before .before .before .before .before .before .before .before .before .before .before .before .before .before .before .before .before .before .before .before .before .before .before .before .before .before .before .before .before .before .before .before .before .before .before .look .given) (c .before .before .before .before .before .before .before .before .before .before .before .before .before .before .before .before .before .before .before .before .before .before .before .before .before .before .before .before .before .before .before .before .before .diagrams .given) (c .before .before .before .before .before .before .before .before .before .before .before .before .before .before .before .before .before .before .before .before .before .before .before .before .before .before .before .before .before .before .before .stages .given) refl))
+          (table .ensures .0 .stored) (table .ensures .1),
+      (front-stored (bounds .out) (c .before .before .before .before .before .before .before .before .before .before .before .before .before .before .before .before .before .out2 .given) (table .ensures .0), λ h. clash (works-accepted (a .left .now) (a .right .now) l long _ (sym (load .ensures .0) ∙ told)) h),
+    )
+
+pub report-pair-spec : {M : Type 1} → statement M
+report-pair-spec =
+    tie.close
+    (tie.spec
+    is-short-requires
+    returns
+    load-requires
+    enum-known-loaded
+    write-refused-requires
+    enum-told
+    report-table-requires
+    same-length
+    same-length-2
+    same-length-3
+    same-length-4
+    same-length-5
+    same-length-6
+    returns-2
+    same-length-7
+    same-length-8
+    same-length-9
+    same-length-10
+    same-length-11
+    same-length-12
+    same-length-13
+    same-length-14
+    same-length-15
+    returns-3)

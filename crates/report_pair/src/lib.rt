@@ -1,0 +1,67 @@
+// The program's call: two files, and the report on them as bytes.
+mod lines;
+
+use crate::lines::report_table;
+use loader::Loaded;
+use report_model::REPORT_ROOM;
+use report_model::ROWS_ROOM;
+ghost use Rattle.compare_parts.specs.Code.{Unchanged};
+ghost use Rattle.report_model.specs.Report.{reportOf, shortRoom?, works?};
+ghost use Rattle.report_pair.specs.Slices.{Front, lent, reportLeft};
+ghost use mathlib.Core.Bool.{false};
+ghost use mathlib.Core.Path.{_≡_};
+
+// Puts the report on two files at the front of `out` and gives back its length: the line of a refused load, or the head line and a line
+// for each output. Where `out`, the rows, the marks or the setting is too short for some pair of files, no slice is changed, and the length is 0.
+// The table is left as the last comparison left it. The slices from `pairs` to `rows` are worked in: only their lengths matter.
+pub fn report_pair(
+    left: &[u8],
+    right: &[u8],
+    out: &mut [u8],
+    table: &mut [u32],
+    pairs: &mut [u32],
+    look: &mut [u32],
+    diagrams: &mut [u32],
+    stages: &mut [u32],
+    rows: &mut [u32],
+    marks: &mut [u8],
+    setting: &mut [u8],
+) -> usize
+    ensures { λ r. ⌜ reportLeft r (now (out .exit)) (now (table .exit)) (now (marks .exit)) (now (setting .exit)) ≡ reportOf (now (left .entry)) (now (right .entry)) (lent (now (out .entry)) (now (table .entry)) (now (pairs .entry)) (now (look .entry)) (now (diagrams .entry)) (now (stages .entry)) (now (rows .entry)) (now (marks .entry)) (now (setting .entry))) ⌝ }
+    ensures { λ r. ⌜ Front r (now (out .exit)) ⌝ }
+    ensures { λ _. ⌜ (works? (now (left .entry)) (now (right .entry)) (lent (now (out .entry)) (now (table .entry)) (now (pairs .entry)) (now (look .entry)) (now (diagrams .entry)) (now (stages .entry)) (now (rows .entry)) (now (marks .entry)) (now (setting .entry))) ≡ false → Unchanged (now (pairs .entry)) (now (pairs .exit)) (now (look .entry)) (now (look .exit)) (now (diagrams .entry)) (now (diagrams .exit)) (now (stages .entry)) (now (stages .exit)) (now (rows .entry)) (now (rows .exit))) ⌝ }
+{
+    if is_short(out.len(), rows.len(), marks.len(), setting.len()) {
+        return 0;
+    }
+    let loaded = load::load(left, right, table, pairs, look, diagrams, stages);
+    match loaded {
+        Loaded::Refused { number, file, line } => report::write_refused(out, number, file, line),
+        Loaded::Accepted(_) => report_table(
+            out,
+            table,
+            pairs,
+            look,
+            diagrams,
+            stages,
+            rows,
+            marks,
+            setting,
+        ),
+    }
+}
+
+fn is_short(out: usize, rows: usize, marks: usize, setting: usize) -> bool
+    ensures { λ r. ⌜ r ≡ shortRoom? out rows marks setting ⌝ }
+{
+    if out < REPORT_ROOM {
+        return true;
+    }
+    if rows < ROWS_ROOM {
+        return true;
+    }
+    if marks < loader_graph::MAX_VERTICES {
+        return true;
+    }
+    setting < table::MAX_INPUTS as usize
+}

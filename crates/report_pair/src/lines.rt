@@ -1,0 +1,140 @@
+// The lines of a loaded table.
+use compare_model::Limits;
+use report_model::ROW_LIMIT;
+use report_model::SIZE_LIMIT;
+use report_model::STEP_LIMIT;
+use sweep_model::Reply;
+ghost use Prim.Native.Nat.{_*_, _+_, _≤_};
+ghost use Rattle.report.specs.Report.{LINE-ROOM, StoredWithin, headLine};
+ghost use Rattle.report_model.specs.Report.{after, comparisonLine, comparisons, linesOf, next, replyRoom, reportRoom};
+ghost use Rattle.report_pair.specs.Slices.{Ready, asked};
+ghost use Rattle.reply_line.specs.Line.{lineFor};
+ghost use Rattle.table.specs.Table.{outputsOf};
+ghost use lib.ListN.{length, take};
+ghost use mathlib.Core.List.{_++_};
+ghost use mathlib.Core.Path.{_≡_};
+
+// Puts the head line and the lines of a loaded table at the front of `out`, and gives back their length.
+pub fn report_table(
+    out: &mut [u8],
+    table: &mut [u32],
+    pairs: &mut [u32],
+    look: &mut [u32],
+    diagrams: &mut [u32],
+    stages: &mut [u32],
+    rows: &mut [u32],
+    marks: &mut [u8],
+    setting: &mut [u8],
+) -> usize
+    requires { ⌜ Ready (now table) (length (now setting)) ⌝ }
+    requires { ⌜ reportRoom ≤ length (now out) ⌝ }
+    ensures { λ r. ⌜ StoredWithin (now (out .entry)) 0 reportRoom (headLine ++ linesOf (comparisons (outputsOf (now (table .entry))) (asked (now (table .entry)) 0 (now (pairs .entry)) (now (look .entry)) (now (diagrams .entry)) (now (stages .entry)) (now (rows .entry)) (now (marks .entry)) (now (setting .entry))))) (now (out .exit)) r ⌝ }
+    ensures { λ _. ⌜ asked (now (table .exit)) (outputsOf (now (table .entry))) (now (pairs .exit)) (now (look .exit)) (now (diagrams .exit)) (now (stages .exit)) (now (rows .exit)) (now (marks .exit)) (now (setting .exit)) ≡ after (outputsOf (now (table .entry))) (asked (now (table .entry)) 0 (now (pairs .entry)) (now (look .entry)) (now (diagrams .entry)) (now (stages .entry)) (now (rows .entry)) (now (marks .entry)) (now (setting .entry))) ⌝ }
+{
+    let start = report::write_head(out);
+    let outputs = table[2];
+    report_outputs(
+        out,
+        start,
+        outputs,
+        table,
+        pairs,
+        look,
+        diagrams,
+        stages,
+        rows,
+        marks,
+        setting,
+    )
+}
+
+// Stores the lines of the outputs in rising number, each compared on the slices as the one before left them, in `out` from `start` on, and
+// gives back the place after them.
+fn report_outputs(
+    out: &mut [u8],
+    start: usize,
+    outputs: u32,
+    table: &mut [u32],
+    pairs: &mut [u32],
+    look: &mut [u32],
+    diagrams: &mut [u32],
+    stages: &mut [u32],
+    rows: &mut [u32],
+    marks: &mut [u8],
+    setting: &mut [u8],
+) -> usize
+    requires { ⌜ Ready (now table) (length (now setting)) ⌝ }
+    requires { ⌜ outputs ≡ outputsOf (now table) ⌝ }
+    requires { ⌜ start + outputs * replyRoom ≤ length (now out) ⌝ }
+    ensures { λ r. ⌜ StoredWithin (now (out .entry)) start (outputs * replyRoom) (linesOf (comparisons outputs (asked (now (table .entry)) 0 (now (pairs .entry)) (now (look .entry)) (now (diagrams .entry)) (now (stages .entry)) (now (rows .entry)) (now (marks .entry)) (now (setting .entry))))) (now (out .exit)) r ⌝ }
+    ensures { λ _. ⌜ asked (now (table .exit)) outputs (now (pairs .exit)) (now (look .exit)) (now (diagrams .exit)) (now (stages .exit)) (now (rows .exit)) (now (marks .exit)) (now (setting .exit)) ≡ after outputs (asked (now (table .entry)) 0 (now (pairs .entry)) (now (look .entry)) (now (diagrams .entry)) (now (stages .entry)) (now (rows .entry)) (now (marks .entry)) (now (setting .entry))) ⌝ }
+{
+    let mut at = start;
+    let mut output = 0;
+    while output < outputs {
+        at = report_output(
+            out,
+            at,
+            output,
+            table,
+            pairs,
+            look,
+            diagrams,
+            stages,
+            rows,
+            marks,
+            setting,
+        );
+        output += 1;
+    }
+    at
+}
+
+// Compares an output, stores its line in `out` from `at` on, and gives back the place after it.
+fn report_output(
+    out: &mut [u8],
+    at: usize,
+    output: u32,
+    table: &mut [u32],
+    pairs: &mut [u32],
+    look: &mut [u32],
+    diagrams: &mut [u32],
+    stages: &mut [u32],
+    rows: &mut [u32],
+    marks: &mut [u8],
+    setting: &mut [u8],
+) -> usize
+    requires { ⌜ Ready (now table) (length (now setting)) ⌝ }
+    requires { ⌜ at + replyRoom ≤ length (now out) ⌝ }
+    ensures { λ r. ⌜ StoredWithin (now (out .entry)) at replyRoom (comparisonLine (asked (now (table .entry)) output (now (pairs .entry)) (now (look .entry)) (now (diagrams .entry)) (now (stages .entry)) (now (rows .entry)) (now (marks .entry)) (now (setting .entry)))) (now (out .exit)) r ⌝ }
+    ensures { λ _. ⌜ asked (now (table .exit)) (output + 1) (now (pairs .exit)) (now (look .exit)) (now (diagrams .exit)) (now (stages .exit)) (now (rows .exit)) (now (marks .exit)) (now (setting .exit)) ≡ next (asked (now (table .entry)) output (now (pairs .entry)) (now (look .entry)) (now (diagrams .entry)) (now (stages .entry)) (now (rows .entry)) (now (marks .entry)) (now (setting .entry))) ⌝ }
+{
+    let limits = Limits {
+        size: SIZE_LIMIT,
+        rows: ROW_LIMIT,
+        steps: STEP_LIMIT,
+    };
+    let inputs = table[0] as usize;
+    let reply = comparer::compare(
+        table,
+        output,
+        limits,
+        pairs,
+        look,
+        diagrams,
+        stages,
+        rows,
+        marks,
+        setting,
+    );
+    put_line(out, at, output, reply, &setting[..inputs])
+}
+
+// Stores the line of a reply in `out` from `at` on, and gives back the place after it.
+fn put_line(out: &mut [u8], at: usize, output: u32, reply: Reply, setting: &[u8]) -> usize
+    requires { ⌜ at + (LINE-ROOM + length (now setting)) ≤ length (now out) ⌝ }
+    ensures { λ r. ⌜ StoredWithin (now (out .entry)) at (LINE-ROOM + length (now (setting .entry))) (lineFor output reply (now (setting .entry))) (now (out .exit)) r ⌝ }
+{
+    let end = at + report::LINE_ROOM + setting.len();
+    at + reply_line::write_line(&mut out[at..end], output, reply, setting)
+}
