@@ -1,1 +1,2 @@
+pub mod Cause
 pub mod Line

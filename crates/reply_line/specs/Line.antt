@@ -1,46 +1,34 @@
 -- The line that the program prints of a reply.
 use Prim.Native.Nat.{_+_, ℕ}
+use Rattle.compare_model.specs.Said.{Said}
 use Rattle.netlist.specs.Limits.{edition}
 use Rattle.report.specs.Report.{LINE-ROOM, refusedLine, replyLine}
 use Rattle.report.specs.declared.fields.Vertex.the-variants.{At, None}
-use Rattle.report.specs.declared.fields.Vertex.{Vertex}
 use Rattle.report.specs.declared.fields.Word.the-variants as word
-use Rattle.report.specs.declared.fields.Word.{Word}
-use Rattle.sweep_model.specs.declared.Cause.the-variants.{Idle, Rows, Size, Steps}
-use Rattle.sweep_model.specs.declared.Cause.{Cause}
-use Rattle.sweep_model.specs.declared.Reply.the-variants.{Different, Equal, Refused, Undecided}
-use Rattle.sweep_model.specs.declared.Reply.{Reply}
 use lib.ListN.{length}
 use mathlib.Core.List.{List, []}
 
--- "reply word (.. size, rows, steps, idle)"
-abbrev pub causeWord : Cause → Word
-causeWord Size = word.Size
-causeWord (Rows v) = word.Rows
-causeWord (Steps v) = word.Steps
-causeWord Idle = word.Idle
-
--- "vertex named by Rows or Steps"
-abbrev pub causeVertex : Cause → Vertex
-causeVertex Size = None
-causeVertex (Rows v) = At v
-causeVertex (Steps v) = At v
-causeVertex Idle = None
-
 -- "A Different writes one byte an input .. to the front of the lent setting slice": the other replies have no setting.
-abbrev pub settingFor : Reply → List ℕ → List ℕ
-settingFor (Equal n) setting = []
-settingFor (Different n) setting = setting
-settingFor (Undecided c n) setting = []
-settingFor (Refused w) setting = []
+abbrev pub settingFor : Said → List ℕ → List ℕ
+settingFor (Said.refused n) setting = []
+settingFor (Said.equal rows steps) setting = []
+settingFor (Said.different rows steps) setting = setting
+settingFor (Said.size rows steps) setting = []
+settingFor (Said.rows v rows steps) setting = []
+settingFor (Said.steps v rows steps) setting = []
+settingFor (Said.idle rows steps) setting = []
 
--- "then a line each": of a reply on an output. A comparison that is refused has neither file nor line.
-abbrev pub lineFor : ℕ → Reply → List ℕ → List ℕ
-lineFor output (Equal n) setting = replyLine edition output word.Equal [] None (n .rows) (n .steps)
-lineFor output (Different n) setting = replyLine edition output word.Different setting None (n .rows) (n .steps)
-lineFor output (Undecided c n) setting = replyLine edition output (causeWord c) [] (causeVertex c) (n .rows) (n .steps)
-lineFor output (Refused w) setting = refusedLine w 0 0
+-- "then a line each": of a reply on an output, with its "reply word (equal, different, size, rows, steps, idle)" and the "vertex named by
+-- Rows or Steps". A comparison that is refused has neither file nor line.
+abbrev pub lineFor : ℕ → Said → List ℕ → List ℕ
+lineFor output (Said.refused n) setting = refusedLine n 0 0
+lineFor output (Said.equal rows steps) setting = replyLine edition output word.Equal [] None rows steps
+lineFor output (Said.different rows steps) setting = replyLine edition output word.Different setting None rows steps
+lineFor output (Said.size rows steps) setting = replyLine edition output word.Size [] None rows steps
+lineFor output (Said.rows v rows steps) setting = replyLine edition output word.Rows [] (At v) rows steps
+lineFor output (Said.steps v rows steps) setting = replyLine edition output word.Steps [] (At v) rows steps
+lineFor output (Said.idle rows steps) setting = replyLine edition output word.Idle [] None rows steps
 
 -- The bytes that the line is sure to fit in.
-abbrev pub roomFor : Reply → List ℕ → ℕ
-roomFor reply setting = LINE-ROOM + length (settingFor reply setting)
+abbrev pub roomFor : Said → List ℕ → ℕ
+roomFor said setting = LINE-ROOM + length (settingFor said setting)

@@ -3,13 +3,15 @@ use report::Vertex;
 use report::Word;
 use sweep_model::Cause;
 use sweep_model::Reply;
-ghost use Rattle.reply_line.specs.Line.{causeVertex, causeWord, lineFor, roomFor};
+ghost use Rattle.compare_model.specs.Said.{saidOf};
+ghost use Rattle.reply_line.specs.Cause.{causeVertex, causeWord};
+ghost use Rattle.reply_line.specs.Line.{lineFor, roomFor};
 ghost use Rattle.report.specs.Report.{Printed};
 ghost use mathlib.Core.Path.{_≡_};
 
 // Puts the line of a reply on an output at the front of `out` and gives back its length. The setting is that of a Different.
 pub fn write_line(out: &mut [u8], output: u32, reply: Reply, setting: &[u8]) -> usize
-    ensures { λ r. ⌜ Printed (roomFor reply (now (setting .entry))) (lineFor output reply (now (setting .entry))) (now (out .entry)) (now (out .exit)) r ⌝ }
+    ensures { λ r. ⌜ Printed (roomFor (saidOf reply) (now (setting .entry))) (lineFor output (saidOf reply) (now (setting .entry))) (now (out .entry)) (now (out .exit)) r ⌝ }
 {
     match reply {
         Reply::Equal(counts) => report::write_reply(

@@ -2,9 +2,7 @@
 use Prim.Native.Nat.{_*_, _≤_, ℕ}
 use Rattle.loader.proofs.LoadLaws.{load-only, load-table}
 use Rattle.loader.proofs.TableLaws.{table-accepted}
-use Rattle.loader.specs.Load.{Room, loadResult, maxVertices, tableAfter}
-use Rattle.loader.specs.declared.Loaded.the-variants as load
-use Rattle.loader.specs.declared.Loaded.{Loaded}
+use Rattle.loader.specs.Load.{Answer, Room, accepted, loadResult, maxVertices, tableAfter}
 use Rattle.loader.specs.declared.Tally.{Tally}
 use Rattle.netlist.specs.Check.{readNetlist}
 use Rattle.report_model.specs.Report.{Lent, firstOf, loadRoom, reportOf, reportRoom, reported, rowLimit, short?, shortRoom?, untouched, works?}
@@ -38,7 +36,7 @@ long-enough out rows marks setting h =
     }
 
 -- The table of an accepted load passes tests 10 and 11.
-pub loaded-accepted : (left right : List ℕ) (room : Room) (t : Tally) (old : List ℕ) → loadResult left right room ≡ load.Accepted t
+pub loaded-accepted : (left right : List ℕ) (room : Room) (t : Tally) (old : List ℕ) → loadResult left right room ≡ accepted t
     → Accepted (tableAfter (loadResult left right room) (readNetlist left) (readNetlist right) old)
 loaded-accepted left right room t old e =
     let h = load-only left right room t e in
@@ -50,7 +48,7 @@ module _ (left right : List ℕ) (lent : Lent) where
   unfolding reportOf
   report-short h = rw h refl
 
-  module _ (long : short? lent ≡ false) (loaded : Loaded) (e : loadResult left right (loadRoom lent) ≡ loaded) (table : List ℕ)
+  module _ (long : short? lent ≡ false) (loaded : Answer) (e : loadResult left right (loadRoom lent) ≡ loaded) (table : List ℕ)
       (t : table ≡ tableAfter loaded (readNetlist left) (readNetlist right) (lent .table)) where
     -- Otherwise the load decides.
     pub report-loaded : reportOf left right lent ≡ reported loaded (firstOf lent table) (lent .out)
@@ -58,6 +56,6 @@ module _ (left right : List ℕ) (lent : Lent) where
     report-loaded = rw (long, e, t) refl
 
   -- Where the load is accepted the slices to work in are worked in.
-  pub works-accepted : short? lent ≡ false → (t : Tally) → loadResult left right (loadRoom lent) ≡ load.Accepted t → works? left right lent ≡ true
+  pub works-accepted : short? lent ≡ false → (t : Tally) → loadResult left right (loadRoom lent) ≡ accepted t → works? left right lent ≡ true
   unfolding works?
   works-accepted long t e = rw (long, e) refl

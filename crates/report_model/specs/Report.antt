@@ -1,9 +1,7 @@
 -- The report that the program prints of two files, and what its call leaves in the slices that it is lent.
 use Prim.Native.Nat.{_*_, _+_, suc, zero, ℕ}
 use Rattle.compare_model.specs.Compare.{Given, Room, compared, overFront}
-use Rattle.loader.specs.Load.{Room as LoadRoom, loadResult, maxVertices, tableAfter}
-use Rattle.loader.specs.declared.Loaded.the-variants.{Accepted, Refused}
-use Rattle.loader.specs.declared.Loaded.{Loaded}
+use Rattle.loader.specs.Load.{Answer, Room as LoadRoom, accepted, loadResult, maxVertices, refused, tableAfter}
 use Rattle.netlist.specs.Check.{readNetlist}
 use Rattle.reply_line.specs.Line.{lineFor}
 use Rattle.report.specs.Report.{LINE-ROOM, headLine, refusedLine}
@@ -86,17 +84,17 @@ linesOf [] = []
 linesOf (g ∷ gs) = comparisonLine g ++ linesOf gs
 
 -- "loads once, compares every output": as many comparisons as the table has outputs, and none after a refused load.
-abbrev pub comparisonCount : Loaded → List ℕ → ℕ
-comparisonCount (Refused number file line) table = 0
-comparisonCount (Accepted tally) table = outputsOf table
+abbrev pub comparisonCount : Answer → List ℕ → ℕ
+comparisonCount (refused number file line) table = 0
+comparisonCount (accepted tally) table = outputsOf table
 
 -- "prints a head line, then a line each." "A refused load prints only `refused⇥number⇥file⇥line`."
-abbrev pub reportBytes : Loaded → List Given → List ℕ
-reportBytes (Refused number file line) gs = refusedLine number file line
-reportBytes (Accepted tally) gs = headLine ++ linesOf gs
+abbrev pub reportBytes : Answer → List Given → List ℕ
+reportBytes (refused number file line) gs = refusedLine number file line
+reportBytes (accepted tally) gs = headLine ++ linesOf gs
 
 -- A report at the front of its slice, the bytes after it unchanged; the other slices as the last comparison left them.
-unfoldable pub reported : Loaded → Given → List ℕ → Report
+unfoldable pub reported : Answer → Given → List ℕ → Report
 reported loaded first out =
     let n = comparisonCount loaded (first .table) in
     let bytes = reportBytes loaded (comparisons n first) in
@@ -137,9 +135,9 @@ reportOf left right lent =
     let table = tableAfter loaded (readNetlist left) (readNetlist right) (lent .table) in
     cond (short? lent) (untouched lent) (reported loaded (firstOf lent table) (lent .out))
 
-abbrev pub accepted? : Loaded → Bool
-accepted? (Refused number file line) = false
-accepted? (Accepted tally) = true
+abbrev pub accepted? : Answer → Bool
+accepted? (refused number file line) = false
+accepted? (accepted tally) = true
 
 -- Whether the slices to work in are worked in: no slice is too short, and the load is not refused.
 unfoldable pub works? : List ℕ → List ℕ → Lent → Bool

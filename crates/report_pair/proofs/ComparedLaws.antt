@@ -1,6 +1,7 @@
 -- What a comparison leaves is the next one's, and its line is stored.
 use Prim.Native.Nat.{_+_, _≤_, ℕ}
 use Rattle.compare_model.specs.Compare.{Given, Left, Room, compared}
+use Rattle.compare_model.specs.Said.{saidOf}
 use Rattle.compare_parts.specs.Code.{left}
 use Rattle.reply_line.specs.Line.{lineFor}
 use Rattle.report.specs.Report.{LINE-ROOM, StoredWithin}
@@ -19,7 +20,7 @@ pub same-room : {p p' l l' d d' s s' r r' : ℕ} → p' ≡ p → l' ≡ l → d
     → _≡_ {A = Room} (record { pairs = p'; look = l'; diagrams = d'; stages = s'; rows = r' }) (record { pairs = p; look = l; diagrams = d; stages = s; rows = r })
 same-room a b c d e = rw (a, b, c, d, e) refl
 
-module _ (g : Given) (reply : Reply) (table marks setting : List ℕ) (e : left reply table marks setting ≡ compared g) where
+module _ (g : Given) (reply : Reply) (table marks setting : List ℕ) (e : left (saidOf reply) table marks setting ≡ compared g) where
   -- What it left is what the next one is given.
   pub compared-next : (room : Room) → room ≡ g .room
       → record { table = table; output = g .output + 1; limits = g .limits; room = room; marks = marks; setting = setting } ≡ next g
@@ -33,7 +34,7 @@ module _ (g : Given) (reply : Reply) (table marks setting : List ℕ) (e : left 
 
   -- The line of its reply is its line.
   pub compared-stored : inputsOf (g .table) ≤ maxInputs → inputsOf (g .table) ≤ length setting → {out new : List ℕ} {at end : ℕ}
-      → StoredWithin out at (LINE-ROOM + length (take (inputsOf (g .table)) setting)) (lineFor (g .output) reply (take (inputsOf (g .table)) setting)) new end
+      → StoredWithin out at (LINE-ROOM + length (take (inputsOf (g .table)) setting)) (lineFor (g .output) (saidOf reply) (take (inputsOf (g .table)) setting)) new end
       → StoredWithin out at replyRoom (comparisonLine g) new end
   unfolding comparisonLine
   compared-stored within long {out} {new} {at} {end} h =

@@ -1,9 +1,8 @@
 -- A line put into a part of a slice is stored in the slice.
 use Prim.Native.Nat.{_+_, _≤_, ℕ}
+use Rattle.compare_model.specs.Said.{Said}
 use Rattle.reply_line.specs.Line.{roomFor, settingFor}
 use Rattle.report.specs.Report.{LINE-ROOM, Printed, StoredWithin, lineLength, linePut}
-use Rattle.sweep_model.specs.declared.Reply.the-variants.{Different, Equal, Refused, Undecided}
-use Rattle.sweep_model.specs.declared.Reply.{Reply}
 use Rattle.text.specs.Decimal.{written}
 use borrow.Author.Tests.{le-ltb}
 use borrow.Rule.Slice.PartMut.{midOf, putMid}
@@ -14,15 +13,18 @@ use mathlib.Core.Path.{_∙_, _≡_, ap, refl, sym}
 use native.Mathlib.Omega.{arith}
 
 -- A line has no more of a setting than there is.
-setting-short : (reply : Reply) (setting : List ℕ) → length (settingFor reply setting) ≤ length setting
-setting-short (Equal n) setting = omega arith
-setting-short (Different n) setting = omega arith
-setting-short (Undecided c n) setting = omega arith
-setting-short (Refused w) setting = omega arith
+setting-short : (said : Said) (setting : List ℕ) → length (settingFor said setting) ≤ length setting
+setting-short (Said.refused n) setting = omega arith
+setting-short (Said.equal rows steps) setting = omega arith
+setting-short (Said.different rows steps) setting = omega arith
+setting-short (Said.size rows steps) setting = omega arith
+setting-short (Said.rows v rows steps) setting = omega arith
+setting-short (Said.steps v rows steps) setting = omega arith
+setting-short (Said.idle rows steps) setting = omega arith
 
 -- So the line of every reply fits.
-pub room-short : (reply : Reply) (setting : List ℕ) → roomFor reply setting ≤ LINE-ROOM + length setting
-room-short reply setting = omega (arith, setting-short reply setting)
+pub room-short : (said : Said) (setting : List ℕ) → roomFor said setting ≤ LINE-ROOM + length setting
+room-short said setting = omega (arith, setting-short said setting)
 
 -- What is printed in the k bytes from a place on is stored from there on.
 pub part-stored : (out : List ℕ) (at k room r : ℕ) (line new : List ℕ) (given : ℕ) → at + k ≤ length out → r ≤ k → k ≤ room

@@ -3,9 +3,7 @@ use Prim.Native.Nat.{_*_, _+_, _≤_, ℕ}
 use Rattle.compare_model.specs.Compare.{Given, overFront}
 use Rattle.compare_parts.specs.Code.{Unchanged}
 use Rattle.load.specs.Lent.{Kept, Working}
-use Rattle.loader.specs.Load.{Room as LoadRoom, loadResult, tableAfter}
-use Rattle.loader.specs.declared.Loaded.the-variants.{Accepted, Refused}
-use Rattle.loader.specs.declared.Loaded.{Loaded}
+use Rattle.loader.specs.Load.{Answer, Room as LoadRoom, accepted, loadResult, refused, tableAfter}
 use Rattle.loader.specs.declared.Tally.{Tally}
 use Rattle.netlist.specs.Check.{readNetlist}
 use Rattle.report.proofs.StoredLaws.{stored-next}
@@ -46,15 +44,15 @@ front-stored {new = new} {count = count} room same p =
     record { within = within; front = sym (length-take-le count new within) }
 
 -- The table of an accepted load, and a setting slice that is long enough.
-pub table-ready : (left right : List ℕ) (room : LoadRoom) (loaded : Loaded) (tally : Tally) → loaded ≡ loadResult left right room → loaded ≡ Accepted tally
+pub table-ready : (left right : List ℕ) (room : LoadRoom) (loaded : Answer) (tally : Tally) → loaded ≡ loadResult left right room → loaded ≡ accepted tally
     → (table old : List ℕ) → table ≡ tableAfter loaded (readNetlist left) (readNetlist right) old → {setting : ℕ} → maxInputs ≤ setting → Ready table setting
 table-ready left right room loaded tally e f table old t long =
     record { accepted = rw (t, e) (loaded-accepted left right room tally old (sym e ∙ f)); room = long }
 
-module _ (left right : List ℕ) (lent : Lent) (long : short? lent ≡ false) (loaded : Loaded) (e : loaded ≡ loadResult left right (loadRoom lent)) (table : List ℕ)
+module _ (left right : List ℕ) (lent : Lent) (long : short? lent ≡ false) (loaded : Answer) (e : loaded ≡ loadResult left right (loadRoom lent)) (table : List ℕ)
     (t : table ≡ tableAfter loaded (readNetlist left) (readNetlist right) (lent .table)) where
   -- The line of a refused load.
-  pub refused-report : (number file line : ℕ) → loaded ≡ Refused number file line → LINE-ROOM ≤ length (lent .out) → (out : List ℕ) (count : ℕ)
+  pub refused-report : (number file line : ℕ) → loaded ≡ refused number file line → LINE-ROOM ≤ length (lent .out) → (out : List ℕ) (count : ℕ)
       → Printed LINE-ROOM (refusedLine number file line) (lent .out) out count
       → reportLeft count out table (lent .marks) (lent .setting) ≡ reportOf left right lent
   unfolding reported after linePut lineLength
@@ -63,10 +61,10 @@ module _ (left right : List ℕ) (lent : Lent) (long : short? lent ≡ false) (l
       let list : out ≡ overFront (refusedLine number file line) (lent .out) = rw test at (p .list) in
       let size : count ≡ length (refusedLine number file line) = rw test at (p .count) in
       ap₂ (λ (n : ℕ) (bytes : List ℕ). reportLeft n bytes table (lent .marks) (lent .setting)) size list
-      ∙ sym (report-loaded left right lent long (Refused number file line) (sym e ∙ f) table (rw f at t))
+      ∙ sym (report-loaded left right lent long (refused number file line) (sym e ∙ f) table (rw f at t))
 
   -- The head line and the lines of an accepted load.
-  pub accepted-report : (tally : Tally) → loaded ≡ Accepted tally → (first last : Given) (out : List ℕ) (count : ℕ) → first ≡ firstOf lent table
+  pub accepted-report : (tally : Tally) → loaded ≡ accepted tally → (first last : Given) (out : List ℕ) (count : ℕ) → first ≡ firstOf lent table
       → Stored (lent .out) 0 (headLine ++ linesOf (comparisons (outputsOf table) first)) out count → last ≡ after (outputsOf table) first
       → reportLeft count out (last .table) (last .marks) (last .setting) ≡ reportOf left right lent
   unfolding reported written
@@ -78,10 +76,10 @@ module _ (left right : List ℕ) (lent : Lent) (long : short? lent ≡ false) (l
       let list : out ≡ overFront bytes (lent .out) = rw (same, z) at (p .list) in
       ap₂ (λ (n : ℕ) (new : List ℕ). reportLeft n new (last .table) (last .marks) (last .setting)) size list
       ∙ ap (λ (g : Given). reportLeft (length bytes) (overFront bytes (lent .out)) (g .table) (g .marks) (g .setting)) (l ∙ ap (after (outputsOf table)) g)
-      ∙ sym (report-loaded left right lent long (Accepted tally) (sym e ∙ f) table (rw f at t))
+      ∙ sym (report-loaded left right lent long (accepted tally) (sym e ∙ f) table (rw f at t))
 
 -- A refused load leaves the slices to work in.
-pub refused-unchanged : (loaded : Loaded) {number file line : ℕ} → loaded ≡ Refused number file line → (before after : Working) → Kept loaded before after
+pub refused-unchanged : (loaded : Answer) {number file line : ℕ} → loaded ≡ refused number file line → (before after : Working) → Kept loaded before after
     → (rows : List ℕ)
     → Unchanged (before .pairs) (after .pairs) (before .look) (after .look) (before .literals) (after .literals) (before .outputs) (after .outputs) rows rows
 refused-unchanged loaded e before after k rows =

@@ -5,6 +5,7 @@ use report_model::SIZE_LIMIT;
 use report_model::STEP_LIMIT;
 use sweep_model::Reply;
 ghost use Prim.Native.Nat.{_*_, _+_, _≤_};
+ghost use Rattle.compare_model.specs.Said.{saidOf};
 ghost use Rattle.report.specs.Report.{LINE-ROOM, StoredWithin, headLine};
 ghost use Rattle.report_model.specs.Report.{after, comparisonLine, comparisons, linesOf, next, replyRoom, reportRoom};
 ghost use Rattle.report_pair.specs.Slices.{Ready, asked};
@@ -133,7 +134,7 @@ fn report_output(
 // Stores the line of a reply in `out` from `at` on, and gives back the place after it.
 fn put_line(out: &mut [u8], at: usize, output: u32, reply: Reply, setting: &[u8]) -> usize
     requires { ⌜ at + (LINE-ROOM + length (now setting)) ≤ length (now out) ⌝ }
-    ensures { λ r. ⌜ StoredWithin (now (out .entry)) at (LINE-ROOM + length (now (setting .entry))) (lineFor output reply (now (setting .entry))) (now (out .exit)) r ⌝ }
+    ensures { λ r. ⌜ StoredWithin (now (out .entry)) at (LINE-ROOM + length (now (setting .entry))) (lineFor output (saidOf reply) (now (setting .entry))) (now (out .exit)) r ⌝ }
 {
     let end = at + report::LINE_ROOM + setting.len();
     at + reply_line::write_line(&mut out[at..end], output, reply, setting)

@@ -1,5 +1,6 @@
 -- Each reply has its own line, by what the match tells of it.
 -- There is no loop.
+use Rattle.reply_line.proofs.LineLaws.{undecided-line, undecided-room}
 use Rattle.reply_line.proofs.write_line.Statement.{statement}
 use Rattle.reply_line.proofs.write_line.Tie as tie
 use borrow.Author.Needs.{needs}
@@ -58,7 +59,7 @@ same-length-3 c = search needs
 
 returns-3 : tie.Need-returns-3
 returns-3 c =
-    rw (c .before .before .before .before .before .before .before .before .reply3 .given .1, sym (c .before .before .before .before .before .word-of .ensures), sym (c .before .before .before .vertex-of .ensures)) (c .before .before .write-reply3 .ensures)
+    rw (c .before .before .before .before .before .before .before .before .reply3 .given .1, undecided-line, undecided-room, sym (c .before .before .before .before .before .word-of .ensures), sym (c .before .before .before .vertex-of .ensures)) (c .before .before .write-reply3 .ensures)
 
 same-length-4 : tie.Need-same-length-4
 same-length-4 c = search needs

@@ -2,6 +2,7 @@
 -- Each return is a case of the report.
 use Rattle.compare_model.specs.Compare.{Room}
 use Rattle.load.specs.Lent.{working}
+use Rattle.loader.specs.Load.{answerOf}
 use Rattle.report_model.proofs.ReportLaws.{long-enough, report-short, works-accepted}
 use Rattle.report_model.specs.Report.{Lent, loadRoom, programLimits, short?}
 use Rattle.report_pair.proofs.ComparedLaws.{same-room}
@@ -48,7 +49,7 @@ report-table-requires c κs =
     let l : Lent = lent (a .out .now) (a .table .now) (a .pairs .now) (a .look .now) (a .diagrams .now) (a .stages .now) (a .rows .now) (a .marks .now) (a .setting .now) in
     let long : short? l ≡ false = sym (c .before .before .before .before .before .before .before .before .before .before .before .before .before .before .before .before .before .before .before .before .before .before .before .before .before .before .before .before .is-short .ensures) ∙ c .before .before .before .before .before .before .before .before .before .before .before .before .before .before .before .before .before .before .before .before .before .before .before .before .before .before .before .if1 .left in
     let bounds = long-enough (length (a .out .now)) (length (a .rows .now)) (length (a .marks .now)) (length (a .setting .now)) long in
-    (table-ready (a .left .now) (a .right .now) (loadRoom l) (load .result) _ (load .ensures .0) told (load .last .1 .1 .0) (a .table .now) (load .ensures .1 .0) (bounds .setting), bounds .out)
+    (table-ready (a .left .now) (a .right .now) (loadRoom l) (answerOf (load .result)) _ (load .ensures .0) (ap answerOf told) (load .last .1 .1 .0) (a .table .now) (load .ensures .1 .0) (bounds .setting), bounds .out)
 
 same-length : tie.Need-same-length
 same-length c = search needs
@@ -77,9 +78,9 @@ returns-2 c =
     let long : short? l ≡ false = sym (c .before .before .before .before .before .before .before .before .before .before .before .before .before .before .before .before .before .before .before .before .before .before .before .before .is-short .ensures) ∙ c .before .before .before .before .before .before .before .before .before .before .before .before .before .before .before .before .before .before .before .before .before .before .before .if1 .left in
     let write = c .before .before .write-refused .ensures in
     let bounds = long-enough (length (a .out .now)) (length (a .rows .now)) (length (a .marks .now)) (length (a .setting .now)) long in (
-      refused-report (a .left .now) (a .right .now) l long (load .result) (load .ensures .0) (load .last .1 .1 .0) (load .ensures .1 .0) _ _ _ told (omega (arith, bounds .out)) _ _
+      refused-report (a .left .now) (a .right .now) l long (answerOf (load .result)) (load .ensures .0) (load .last .1 .1 .0) (load .ensures .1 .0) _ _ _ (ap answerOf told) (omega (arith, bounds .out)) _ _
           write,
-      (record { within = write .within; front = write .front }, λ h. refused-unchanged (load .result) told (working (a .pairs .now) (a .look .now) (a .diagrams .now) (a .stages .now)) _ (load .ensures .1 .1) (a .rows .now)),
+      (record { within = write .within; front = write .front }, λ h. refused-unchanged (answerOf (load .result)) (ap answerOf told) (working (a .pairs .now) (a .look .now) (a .diagrams .now) (a .stages .now)) _ (load .ensures .1 .1) (a .rows .now)),
     )
 
 same-length-7 : tie.Need-same-length-7
@@ -118,11 +119,11 @@ returns-3 c =
     let long : short? l ≡ false = sym (c .before .before .before .before .before .before .before .before .before .before .before .before .before .before .before .before .before .before .before .before .before .before .before .before .before .before .before .before .before .before .before .before .before .before .before .before .before .before .before .before .before .before .before .before .before .before .before .is-short .ensures) ∙ c .before .before .before .before .before .before .before .before .before .before .before .before .before .before .before .before .before .before .before .before .before .before .before .before .before .before .before .before .before .before .before .before .before .before .before .before .before .before .before .before .before .before .before .before .before .before .if1 .left in
     let bounds = long-enough (length (a .out .now)) (length (a .rows .now)) (length (a .marks .now)) (length (a .setting .now)) long in
     let table = c .before .before .before .before .before .before .before .before .before .before .before .before .before .before .before .before .before .before .report-table in (
-      accepted-report (a .left .now) (a .right .now) l long (load .result) (load .ensures .0) (load .last .1 .1 .0) (load .ensures .1 .0) _ told _ _ _ (table .result)
+      accepted-report (a .left .now) (a .right .now) l long (answerOf (load .result)) (load .ensures .0) (load .last .1 .1 .0) (load .ensures .1 .0) _ (ap answerOf told) _ _ _ (table .result)
           (ap (λ (r : Room). record { table = load .last .1 .1 .0; output = 0; limits = programLimits; room = r; marks = a .marks .now; setting = a .setting .now })
           (same-room (c .before .before .before .before .before .before .before .before .before .before .before .before .before .before .before .before .before .before .before .before .before .before .before .before .before .before .before .before .before .before .before .before .before .before .before .before .before .pairs .given) (c .before .before .before .before .before .before .before .before .before .before .before .before .before .before .before .before .before .before .before .before .before .before .before .before .before .before .before .before .before .before .before .before .before .before .before .look .given) (c .before .before .before .before .before .before .before .before .before .before .before .before .before .before .before .before .before .before .before .before .before .before .before .before .before .before .before .before .before .before .before .before .before .diagrams .given) (c .before .before .before .before .before .before .before .before .before .before .before .before .before .before .before .before .before .before .before .before .before .before .before .before .before .before .before .before .before .before .before .stages .given) refl))
           (table .ensures .0 .stored) (table .ensures .1),
-      (front-stored (bounds .out) (c .before .before .before .before .before .before .before .before .before .before .before .before .before .before .before .before .before .out2 .given) (table .ensures .0), λ h. clash (works-accepted (a .left .now) (a .right .now) l long _ (sym (load .ensures .0) ∙ told)) h),
+      (front-stored (bounds .out) (c .before .before .before .before .before .before .before .before .before .before .before .before .before .before .before .before .before .out2 .given) (table .ensures .0), λ h. clash (works-accepted (a .left .now) (a .right .now) l long _ (sym (load .ensures .0) ∙ ap answerOf told)) h),
     )
 
 pub report-pair-spec : {M : Type 1} → statement M

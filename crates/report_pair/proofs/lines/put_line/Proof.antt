@@ -1,4 +1,5 @@
 use Prim.Native.Nat.{_+_, _-_, ℕ}
+use Rattle.compare_model.specs.Said.{saidOf}
 use Rattle.report_pair.proofs.PartLaws.{part-stored, room-short}
 use Rattle.reply_line.specs.Line.{roomFor}
 use Rattle.report.specs.Report.{LINE-ROOM}
@@ -39,7 +40,7 @@ returns c =
     let a = start .args in
     let k : ℕ = a .at + 67 + length (a .setting .now) - a .at in
     let room : ℕ = LINE-ROOM + length (a .setting .now) in
-    part-stored (a .out .now) (a .at) k room (roomFor (a .reply) (a .setting .now)) _ _ (write .result) (omega (arith, start .pre)) (omega (arith, room-short (a .reply) (a .setting .now))) (omega arith) (c .before .out .given .0) (write .ensures)
+    part-stored (a .out .now) (a .at) k room (roomFor (saidOf (a .reply)) (a .setting .now)) _ _ (write .result) (omega (arith, start .pre)) (omega (arith, room-short (saidOf (a .reply)) (a .setting .now))) (omega arith) (c .before .out .given .0) (write .ensures)
 
 pub put-line-spec : {M : Type 1} → statement M
 put-line-spec =

@@ -1,0 +1,26 @@
+-- The line of an Undecided by its cause.
+use Prim.Native.Nat.{ℕ}
+use Rattle.compare_model.specs.Said.{undecidedBy}
+use Rattle.netlist.specs.Limits.{edition}
+use Rattle.reply_line.specs.Cause.{causeVertex, causeWord}
+use Rattle.reply_line.specs.Line.{lineFor, roomFor}
+use Rattle.report.specs.Report.{LINE-ROOM, replyLine}
+use Rattle.sweep_model.specs.declared.Cause.the-variants.{Idle, Rows, Size, Steps}
+use Rattle.sweep_model.specs.declared.Cause.{Cause}
+use mathlib.Core.List.{List, []}
+use mathlib.Core.Path.{_≡_, refl}
+
+-- It has the cause's word and vertex, and no setting.
+pub undecided-line : (output : ℕ) (x : Cause) (rows steps : ℕ) (setting : List ℕ)
+    → lineFor output (undecidedBy x rows steps) setting ≡ replyLine edition output (causeWord x) [] (causeVertex x) rows steps
+undecided-line output Size rows steps setting = refl
+undecided-line output (Rows v) rows steps setting = refl
+undecided-line output (Steps v) rows steps setting = refl
+undecided-line output Idle rows steps setting = refl
+
+-- It needs no room for a setting.
+pub undecided-room : (x : Cause) (rows steps : ℕ) (setting : List ℕ) → roomFor (undecidedBy x rows steps) setting ≡ LINE-ROOM
+undecided-room Size rows steps setting = refl
+undecided-room (Rows v) rows steps setting = refl
+undecided-room (Steps v) rows steps setting = refl
+undecided-room Idle rows steps setting = refl

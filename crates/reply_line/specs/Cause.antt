@@ -1,0 +1,21 @@
+-- The word and the vertex of an Undecided, by its cause.
+use Rattle.report.specs.declared.fields.Vertex.the-variants.{At, None}
+use Rattle.report.specs.declared.fields.Vertex.{Vertex}
+use Rattle.report.specs.declared.fields.Word.the-variants as word
+use Rattle.report.specs.declared.fields.Word.{Word}
+use Rattle.sweep_model.specs.declared.Cause.the-variants.{Idle, Rows, Size, Steps}
+use Rattle.sweep_model.specs.declared.Cause.{Cause}
+
+-- "reply word (.. size, rows, steps, idle)"
+abbrev pub causeWord : Cause → Word
+causeWord Size = word.Size
+causeWord (Rows v) = word.Rows
+causeWord (Steps v) = word.Steps
+causeWord Idle = word.Idle
+
+-- "vertex named by Rows or Steps"
+abbrev pub causeVertex : Cause → Vertex
+causeVertex Size = None
+causeVertex (Rows v) = At v
+causeVertex (Steps v) = At v
+causeVertex Idle = None
