@@ -2,10 +2,11 @@
 use Prim.Native.Nat.{_*_, ℕ}
 use Rattle.compare_model.proofs.RefusalLaws.{compared-answered}
 use Rattle.compare_model.specs.Compare.{Given, Room, answerTo, answered, beyond?, callTests, compared, outside?, refusalOf, saidBy, shortSlice?, sliceWords}
-use Rattle.compare_model.specs.Demand1.{Answers, Good, says-different, says-equal, says-undecided}
+use Rattle.compare_model.specs.Demand1.{Answers, Good, says-different, says-equal, says-idle, says-rows, says-size, says-steps}
 use Rattle.compare_model.specs.Passed.{Enough, LimitsWithin, Passed, Within}
 use Rattle.sweep_model.specs.State.{Limits}
 use Rattle.sweep_model.specs.Sweep.{Verdict, different, equal, undecided}
+use Rattle.sweep_model.specs.declared.Cause.the-variants.{Idle, Rows, Size, Steps}
 use Rattle.table.proofs.AcceptedLaws.{accepts}
 use Rattle.table.proofs.FitsLaws.{fits-accepted}
 use Rattle.table.proofs.RefusalLaws.{table-passed}
@@ -79,12 +80,17 @@ module _ (g : Given) where
   pub compare-accepts : Good g → refusalOf g ≡ 0
   compare-accepts h = passes (good-passed h)
 
-  -- Its reply is Equal, Different or Undecided.
+  -- It is answered by Equal, Different or Undecided.
   pub compare-answers : Good g → Answers (compared g .reply)
   unfolding answered saidBy
-  compare-answers h = rw (compared-answered g (compare-accepts h)) (said (answerTo g .verdict))
+  compare-answers h =
+      rw (compared-answered g (compare-accepts h))
+      (said (answerTo g .verdict) (length (answerTo g .left .book .store)) (answerTo g .left .book .steps))
     where
-      said : (x : Verdict) → Answers (saidBy x (length (answerTo g .left .book .store)) (answerTo g .left .book .steps))
-      said equal = says-equal
-      said (different s) = says-different
-      said (undecided x) = says-undecided x _ _
+      said : (x : Verdict) (rows steps : ℕ) → Answers (saidBy x rows steps)
+      said equal rows steps = says-equal
+      said (different s) rows steps = says-different
+      said (undecided Size) rows steps = says-size
+      said (undecided (Rows v)) rows steps = says-rows
+      said (undecided (Steps v)) rows steps = says-steps
+      said (undecided Idle) rows steps = says-idle

@@ -1,8 +1,7 @@
 -- Demand 1 for a comparison: what a good call is given, word by word and with the paper's own numbers.
 use Prim.Native.Nat.{_*_, _+_, _<_, _≤_, ℕ}
 use Rattle.compare_model.specs.Compare.{Given}
-use Rattle.compare_model.specs.Said.{Said, undecidedBy}
-use Rattle.sweep_model.specs.declared.Cause.{Cause}
+use Rattle.compare_model.specs.Said.{Said}
 use Rattle.table.specs.Fits.{Fits, word}
 use lib.ListN.{length}
 
@@ -29,8 +28,11 @@ pub record Good (g : Given) : Type 0 where
   pub marks : vertexCount g ≤ length (g .marks)
   pub setting : word (g .table) 0 ≤ length (g .setting)
 
--- "Replies: Equal; Different; Undecided": a reply that is no refusal.
+-- "Replies: Equal; Different; Undecided by Size ..; by Rows ..; by Steps ..; Idle": what is said is no refusal.
 pub data Answers : Said → Type 0 where
   says-equal : {rows steps : ℕ} → Answers (Said.equal rows steps)
   says-different : {rows steps : ℕ} → Answers (Said.different rows steps)
-  says-undecided : (x : Cause) (rows steps : ℕ) → Answers (undecidedBy x rows steps)
+  says-size : {rows steps : ℕ} → Answers (Said.size rows steps)
+  says-rows : {vertex rows steps : ℕ} → Answers (Said.rows vertex rows steps)
+  says-steps : {vertex rows steps : ℕ} → Answers (Said.steps vertex rows steps)
+  says-idle : {rows steps : ℕ} → Answers (Said.idle rows steps)

@@ -1,5 +1,5 @@
 -- The setting that a Different wrote, given to evaluate on the table as left, has different values on the two sides.
-use Prim.Native.Nat.{_≤_, ℕ}
+use Prim.Native.Nat.{_*_, _<_, _≤_, suc, zero, ℕ}
 use Rattle.compare_model.proofs.Demand2.{demand2}
 use Rattle.compare_model.proofs.RefusalLaws.{compared-refused, passed}
 use Rattle.compare_model.proofs.Since.{Since, since-compared, since-loaded}
@@ -7,44 +7,48 @@ use Rattle.compare_model.specs.Claims.{Differs}
 use Rattle.compare_model.specs.Compare.{Given, Left, compared, refusalOf, settingBytes, turnedBack}
 use Rattle.compare_model.specs.Said.{Said}
 use Rattle.demands.specs.Evaluated.{Confirmed, written}
-use Rattle.evaluate.proofs.ReadyLaws.{value-answers}
-use Rattle.evaluate.specs.Evaluate.{Ready, allDigits?, bit, callTests, digit?, digitsOf, evaluateTests, evaluatedValue, evaluation, side?, unknown?, valued}
+use Rattle.evaluate.proofs.EvaluableLaws.{evaluates}
+use Rattle.evaluate.specs.Evaluate.{bit, digitsOf, evaluatedValue, evaluation, valued}
 use Rattle.product_model.proofs.Cases.{impossible}
-use Rattle.table.proofs.AcceptedLaws.{accepts}
-use Rattle.table.proofs.RefusalLaws.{table-passed}
-use Rattle.table.specs.Refusals.{firstRefusal}
-use Rattle.table.specs.Table.{graphOf, inputsOf, outputValue, outputsOf, verticesOf}
+use Rattle.table.proofs.AcceptedLaws.{row-words-below}
+use Rattle.table.proofs.LayoutLaws.{length-output-words, output-word-at}
+use Rattle.table.specs.Accepted.{Accepted}
+use Rattle.table.specs.Fits.{Fits}
+use Rattle.table.specs.Table.{graphOf, inputsOf, outputValue, verticesOf}
 use Rattle.truth.specs.Truth.{Setting}
-use borrow.Author.Tests.{eq-eqb, le-ltb, lt-leb}
-use lib.ListN.{drop, length, length-map, take}
+use lib.ListN.{drop, getD, length, length-map, take}
 use lib.Seq.{take-at}
 use mathlib.Core.Bool.{Bool, false, true}
 use mathlib.Core.List.{List, [], _∷_}
-use mathlib.Core.Logic.{_≢_}
-use mathlib.Core.Path.{_∙_, _≡_, ap, refl, sym}
+use mathlib.Core.Logic.{_⊎_, _≢_, inl, inr}
+use mathlib.Core.Path.{_∙_, _≡_, ap, refl, subst, sym}
 use native.Mathlib.Decide.{ℕ-discrete}
 use native.Mathlib.Omega.{arith}
 
--- Where the arguments of evaluate are ready, no refusal applies.
-ready-passes : {words : List ℕ} {side output : ℕ} {setting : List ℕ} {room : ℕ} → Ready words side output setting room
-    → firstRefusal 0 (evaluateTests words side output setting room) ≡ 0
-unfolding firstRefusal unknown?
-ready-passes {words} {side} {output} {setting} {room} h =
-    table-passed words (callTests words side output setting room) (accepts words (h .table))
-    ∙ rw (
-      h .side-known,
-      lt-leb (outputsOf words) output (h .output-known),
-      le-ltb room (verticesOf words) (h .room-enough),
-      eq-eqb (length setting) (inputsOf words) (h .setting-fits),
-      h .setting-digits,
-    ) refl
+-- A table that tests 10 and 11 leave keeps the rules word by word.
+accepted-fits : {ws : List ℕ} → Accepted ws → Fits ws
+accepted-fits {ws} h =
+    record {
+      header = h .formed .header;
+      inputs = h .formed .inputs;
+      made = h .formed .made;
+      some-output = h .formed .some-output;
+      outputs = h .formed .outputs;
+      whole = h .formed .whole;
+      firsts = λ i l. row-words-below h i l .first;
+      seconds = λ i l. row-words-below h i l .second;
+      references = λ k l.
+          subst (λ (r : ℕ). r < 2 * verticesOf ws) (output-word-at ws k l)
+          (h .references k (omega (arith, length-output-words ws (h .formed .whole))));
+    }
 
--- The bytes of a setting are digits, and stand for it.
-bytes-digits : (t : Setting) → allDigits? (settingBytes t) ≡ true
-unfolding allDigits? digit? settingBytes
-bytes-digits [] = refl
-bytes-digits (true ∷ t) = bytes-digits t
-bytes-digits (false ∷ t) = bytes-digits t
+-- The bytes of a setting are 48 and 49, and stand for it.
+bytes-either : (t : Setting) (i : ℕ) → i < length (settingBytes t) → (getD (settingBytes t) i 0 ≡ 48) ⊎ (getD (settingBytes t) i 0 ≡ 49)
+unfolding settingBytes
+bytes-either [] i l = absurd (omega arith)
+bytes-either (true ∷ t) zero l = inr refl
+bytes-either (false ∷ t) zero l = inl refl
+bytes-either (x ∷ t) (suc i) l = bytes-either t i (omega arith)
 
 bytes-stand : (t : Setting) → digitsOf (settingBytes t) ≡ t
 unfolding settingBytes
@@ -59,54 +63,50 @@ bits-apart true false h e = omega arith
 bits-apart false true h e = omega arith
 bits-apart false false h e = h refl
 
-module _ (g : Given) (h : refusalOf g ≡ 0) (x : Differs (g .table) (g .output) (g .setting) (compared g .setting)) (room : ℕ)
-    (enough : verticesOf (g .table) ≤ room) where
+module _ (g : Given) (h : refusalOf g ≡ 0) (room : ℕ) (enough : verticesOf (g .table) ≤ room)
+    (d : Differs (g .table) (g .output) (g .setting) (compared g .setting)) where
   -- The table left has kept what was given.
   kept : Since (g .table) (compared g .table)
   kept = since-compared g (since-loaded (passed g h .table))
 
-  digits-left : length (x .setting) ≡ inputsOf (compared g .table)
-  digits-left = x .digits ∙ sym (kept .inputs)
-
-  -- The bytes written are those of the setting.
-  setting-written : written (compared g) ≡ settingBytes (x .setting)
+  length-bytes : length (settingBytes (d .setting)) ≡ inputsOf (compared g .table)
   unfolding settingBytes
+  length-bytes = length-map (d .setting) _ ∙ d .digits ∙ sym (kept .inputs)
+
+  -- The bytes of the setting are those written.
+  setting-written : written (compared g) ≡ settingBytes (d .setting)
   setting-written =
-      ap (take (inputsOf (compared g .table))) (x .written)
-      ∙ take-at (settingBytes (x .setting)) (drop (length (settingBytes (x .setting))) (g .setting)) (inputsOf (compared g .table))
-      (length-map (x .setting) _ ∙ digits-left)
+      ap (take (inputsOf (compared g .table))) (d .written)
+      ∙ take-at (settingBytes (d .setting)) (drop (length (settingBytes (d .setting))) (g .setting)) (inputsOf (compared g .table)) length-bytes
 
   -- Evaluate gives the value that the side's output had in what was given.
-  side-valued : (side : ℕ) → side? side ≡ true
-      → evaluation (compared g .table) side (g .output) (written (compared g)) room ≡ valued (bit (outputValue (graphOf (g .table)) side (g .output) (x .setting)))
-  unfolding evaluatedValue settingBytes
+  side-valued : (side : ℕ) → (side ≡ 1) ⊎ (side ≡ 2)
+      → evaluation (compared g .table) side (g .output) (written (compared g)) room
+      ≡ valued (bit (outputValue (graphOf (g .table)) side (g .output) (d .setting)))
+  unfolding evaluatedValue
   side-valued side known =
       rw setting-written
-      (sym
-      (value-answers (compared g .table) side (g .output) (settingBytes (x .setting)) room
-      (bit (outputValue (graphOf (g .table)) side (g .output) (x .setting)))
-      (ready-passes
+      (evaluates {setting = settingBytes (d .setting)}
       (record {
-        table = kept .accepted;
+        table = accepted-fits (kept .accepted);
         side-known = known;
         output-known = omega (arith, passed g h .output, kept .outputs);
         room-enough = omega (arith, enough, kept .inputs, kept .made);
-        setting-fits = length-map (x .setting) _ ∙ digits-left;
-        setting-digits = bytes-digits (x .setting);
-      }))
-      (ap bit
-      (sym (demand2 g h .values side (g .output) (x .setting) (passed g h .output) (x .digits))
-      ∙ ap (outputValue (graphOf (compared g .table)) side (g .output)) (sym (bytes-stand (x .setting)))))))
+        setting-fits = length-bytes;
+        setting-digits = bytes-either (d .setting);
+      })
+      ∙ ap (λ (x : Bool). valued (bit x))
+      (ap (outputValue (graphOf (compared g .table)) side (g .output)) (bytes-stand (d .setting))
+      ∙ demand2 g h .values side (g .output) (d .setting) (passed g h .output) (d .digits)))
 
   confirmed : Confirmed g (compared g) room
-  unfolding side?
   confirmed =
       record {
-        first = bit (outputValue (graphOf (g .table)) 1 (g .output) (x .setting));
-        second = bit (outputValue (graphOf (g .table)) 2 (g .output) (x .setting));
-        first-side = side-valued 1 refl;
-        second-side = side-valued 2 refl;
-        differ = bits-apart _ _ (x .differ);
+        first = bit (outputValue (graphOf (g .table)) 1 (g .output) (d .setting));
+        second = bit (outputValue (graphOf (g .table)) 2 (g .output) (d .setting));
+        first-side = side-valued 1 (inl refl);
+        second-side = side-valued 2 (inr refl);
+        differ = bits-apart _ _ (d .differ);
       }
 
 -- After Different, evaluate finds the two sides different on the setting that was written, where its working slice is long enough.
@@ -115,9 +115,9 @@ pub different-confirmed : (g : Given) (rows steps room : ℕ) → compared g .re
 unfolding turnedBack
 different-confirmed g rows steps room e enough =
     elim (ℕ-discrete (refusalOf g) 0) [
-      | yes h ↦ confirmed g h (demand2 g h .different rows steps e) room enough
-      | no h ↦ refused (ap (λ (l : Left). l .reply) (sym (compared-refused g h)) ∙ e)
+      | yes h ↦ confirmed g h room enough (demand2 g h .different rows steps e)
+      | no h ↦ other (ap (λ (l : Left). l .reply) (sym (compared-refused g h)) ∙ e)
     ]
   where
-    refused : Said.refused (refusalOf g) ≡ Said.different rows steps → Confirmed g (compared g) room
-    refused k = impossible (cc)
+    other : Said.refused (refusalOf g) ≡ Said.different rows steps → Confirmed g (compared g) room
+    other k = impossible (cc)
