@@ -4,3 +4,4 @@ pub mod Demand3
 pub mod Complete
 pub mod Cards
 pub mod Example
+pub mod Printed

@@ -1,2 +1,3 @@
 pub mod ComparisonLaws
 pub mod ReportLaws
+pub mod RoomLaws
