@@ -6,3 +6,4 @@ pub mod Evaluated
 pub mod FromFiles
 pub mod Cards
 pub mod Example
+pub mod Printed

@@ -5,3 +5,4 @@ pub mod Evaluated
 pub mod FromFiles
 pub mod Cards
 pub mod Example
+pub mod Printed

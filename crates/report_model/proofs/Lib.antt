@@ -1,2 +1,4 @@
+pub mod Cards
 pub mod ComparisonLaws
 pub mod ReportLaws
+pub mod RoomLaws

@@ -1,0 +1,141 @@
+-- The report is true of the files. Its lines are those of a list of comparisons, demand 3 holds of the list, and none of them is refused.
+use Prim.Native.Nat.{_+_, _<_, _≤_, suc, zero, ℕ}
+use Rattle.compare_model.proofs.Since.{Since, since-compared}
+use Rattle.compare_model.specs.Compare.{Given, compared, refusalOf, settingBytes}
+use Rattle.compare_model.specs.Said.{Said}
+use Rattle.demands.proofs.Demand3.{demand3, loaded-files, since-first}
+use Rattle.demands.proofs.FileLaws.{table-inputs, table-outputs}
+use Rattle.demands.proofs.ReplyLaws.{reply-kept}
+use Rattle.demands.specs.Claims.{ReplyKept}
+use Rattle.demands.specs.Demand3.{Call, Each, Ran}
+use Rattle.demands.specs.Example.{callOf}
+use Rattle.demands.specs.Printed.{Numbered, PrintedTrue, TrueLine, callLine, callLines, says-different, says-equal, says-undecided}
+use Rattle.loader.proofs.LoadLaws.{load-only}
+use Rattle.loader.proofs.TableLaws.{table-accepted}
+use Rattle.loader.specs.Load.{accepted, tableAfter, tableOf}
+use Rattle.loader.specs.Loadable.{Loadable}
+use Rattle.netlist.specs.Check.{readNetlist}
+use Rattle.netlist.specs.Limits.{edition}
+use Rattle.netlist.specs.Netlist.{Netlist}
+use Rattle.reply_line.specs.Line.{lineFor}
+use Rattle.report.specs.Report.{headLine, replyLine}
+use Rattle.report.specs.declared.fields.Vertex.the-variants.{None}
+use Rattle.report.specs.declared.fields.Word.the-variants as word
+use Rattle.report_model.proofs.ComparisonLaws.{after-next}
+use Rattle.report_model.proofs.ReportLaws.{long-enough, report-loaded}
+use Rattle.report_model.proofs.RoomLaws.{Roomy, never-refused, outputs-next, roomy-next}
+use Rattle.report_model.specs.Report.{Lent, after, comparisonLine, comparisons, firstOf, linesOf, loadRoom, next, programLimits, reported}
+use Rattle.sweep_model.specs.declared.Cause.the-variants.{Idle, Rows, Size, Steps}
+use Rattle.table.specs.Table.{inputsOf, outputsOf}
+use lib.ListN.{length, length-map, take}
+use lib.Seq.{take-append-seam, take-at}
+use mathlib.Core.List.{List, [], _++_, _∷_}
+use mathlib.Core.Path.{_∙_, _≡_, ap, refl, subst, sym}
+use native.Mathlib.Numerals.{add-one}
+use native.Mathlib.Omega.{arith}
+
+-- The comparisons of a report as calls.
+abbrev callsOf : ℕ → Given → List Call
+callsOf zero g = []
+callsOf (suc n) g = callOf g ∷ callsOf n (next g)
+
+length-calls : (n : ℕ) (g : Given) → length (callsOf n g) ≡ n
+length-calls zero g = refl
+length-calls (suc n) g = ap suc (length-calls n (next g))
+
+-- Their lines are the report's.
+lines-calls : (n : ℕ) (g : Given) → linesOf (comparisons n g) ≡ callLines (callsOf n g)
+unfolding linesOf comparisons callLines comparisonLine
+lines-calls zero g = refl
+lines-calls (suc n) g = ap (_++_ (callLine (callOf g))) (lines-calls n (next g))
+
+-- Each is made on the table as the one before left it.
+ran-calls : (n : ℕ) (g : Given) → Ran (g .table) (callsOf n g) (after n g .table)
+unfolding after next
+ran-calls zero g = Ran.none
+ran-calls (suc n) g =
+    Ran.next {c = callOf g} refl refl (subst (λ (h : Given). Ran (compared g .table) (callsOf n (next g)) (h .table)) (after-next n g) (ran-calls n (next g)))
+
+-- They are on the outputs in rising number, with the same limits.
+numbered-calls : (n : ℕ) (g : Given) (k : ℕ) → g .output ≡ k → g .limits ≡ programLimits → Numbered k (callsOf n g)
+unfolding next
+numbered-calls zero g k e l = Numbered.none
+numbered-calls (suc n) g k e l = Numbered.next {c = callOf g} e l (numbered-calls n (next g) (suc k) (add-one (g .output) ∙ ap suc e) l)
+
+module _ {d e : Netlist} (h : Loadable d e) (old : List ℕ) where
+  -- The line of a comparison that is not refused is true of the files.
+  line-true : (g : Given) → Since (tableOf d e old) (g .table) → refusalOf g ≡ 0 → TrueLine d e (g .output) (callLine (callOf g))
+  unfolding settingBytes
+  line-true g s r = go (compared g .reply) (reply-kept h old g s)
+    where
+      go : (x : Said) → ReplyKept d e (tableOf d e old) g (compared g) x
+          → TrueLine d e (g .output) (lineFor (g .output) x (take (inputsOf (g .table)) (compared g .setting)))
+      go (Said.refused n) k = absurd (k .1 (sym (k .0) ∙ r))
+      go (Said.equal rows steps) k = says-equal rows steps (k .1)
+      go (Said.different rows steps) k =
+          let x = k .1 in
+          let digits : length (settingBytes (x .setting)) ≡ inputsOf (g .table) =
+          length-map (x .setting) _ ∙ x .digits ∙ sym (table-inputs d e h old) ∙ sym (s .inputs) in
+          let front : settingBytes (x .setting) ≡ take (inputsOf (g .table)) (compared g .setting) =
+          sym (rw (x .written) (take-at (settingBytes (x .setting)) _ (inputsOf (g .table)) digits)) in
+          subst (λ (bytes : List ℕ). TrueLine d e (g .output) (replyLine edition (g .output) word.Different bytes None rows steps)) front (says-different rows steps x)
+      go (Said.size rows steps) k = says-undecided rows steps Size
+      go (Said.rows v rows steps) k = says-undecided rows steps (Rows v)
+      go (Said.steps v rows steps) k = says-undecided rows steps (Steps v)
+      go (Said.idle rows steps) k = says-undecided rows steps Idle
+
+  -- So is that of each of the program's.
+  lines-true : (n : ℕ) (g : Given) → Roomy g → g .output + n ≤ outputsOf (g .table) → Since (tableOf d e old) (g .table)
+      → Each (λ c. TrueLine d e (c .given .output) (callLine c)) (callsOf n g)
+  unfolding next
+  lines-true zero g r l s = Each.none
+  lines-true (suc n) g r l s =
+      let inside : g .output < outputsOf (g .table) = omega arith in
+      Each.next {c = callOf g} (line-true g s (never-refused r inside))
+      (lines-true n (next g) (roomy-next r inside) (omega (arith, outputs-next r inside)) (since-compared g s))
+
+-- The report is true of the files.
+pub printed-true : PrintedTrue
+unfolding reported tableAfter
+printed-true left right lent tally d e long a l r =
+    rw (report-loaded left right lent long (accepted tally) a (tableOf d e (lent .table)) (rw (l, r) refl))
+    (record {
+      calls = calls;
+      bytes = take-append-seam bytes _ ∙ ap (_++_ headLine) (lines-calls n first);
+      count = length-calls n first ∙ table-outputs d e h (lent .table);
+      numbered = numbered-calls n first 0 refl refl;
+      ran = ran-calls n first;
+      holds = demand3 left right (loadRoom lent) tally d e (lent .table) (after n first .table) calls a l r (ran-calls n first);
+      true-lines = lines-true h (lent .table) n first roomy (omega arith) (since-first h (lent .table));
+    })
+  where
+    h : Loadable d e
+    h = loaded-files left right (loadRoom lent) tally d e a l r
+
+    first : Given
+    first = firstOf lent (tableOf d e (lent .table))
+
+    n : ℕ
+    n = outputsOf (tableOf d e (lent .table))
+
+    calls : List Call
+    calls = callsOf n first
+
+    bytes : List ℕ
+    bytes = headLine ++ linesOf (comparisons n first)
+
+    roomy : Roomy first
+    roomy =
+        let enough = load-only left right (loadRoom lent) tally a .enough in
+        let lengths = long-enough (length (lent .out)) (lent .room .rows) (length (lent .marks)) (length (lent .setting)) long in
+        record {
+          table = table-accepted d e h (lent .table);
+          limits = refl;
+          pairs = enough .pairs;
+          look = enough .look;
+          diagrams = enough .literals;
+          stages = enough .outputs;
+          rows = lengths .rows;
+          marks = lengths .marks;
+          setting = lengths .setting;
+        }

@@ -1,0 +1,60 @@
+-- What the program prints of two files whose load is accepted: the head line, and of each output in rising number a line that is true of
+-- the files.
+use Prim.Native.Nat.{suc, ℕ}
+use Rattle.compare_model.specs.Compare.{settingBytes}
+use Rattle.demands.specs.Claims.{Agree, Separated}
+use Rattle.demands.specs.Demand3.{Call, Each, Holds, Ran}
+use Rattle.loader.specs.Load.{accepted, loadResult, tableOf}
+use Rattle.loader.specs.declared.Tally.{Tally}
+use Rattle.netlist.specs.Check.{read, readNetlist}
+use Rattle.netlist.specs.Limits.{edition}
+use Rattle.netlist.specs.Netlist.{Netlist}
+use Rattle.reply_line.specs.Cause.{causeVertex, causeWord}
+use Rattle.reply_line.specs.Line.{lineFor}
+use Rattle.report.specs.Report.{headLine, replyLine}
+use Rattle.report.specs.declared.fields.Vertex.the-variants.{None}
+use Rattle.report.specs.declared.fields.Word.the-variants.{Different, Equal}
+use Rattle.report_model.specs.Report.{Lent, Report, loadRoom, programLimits, reportOf, short?}
+use Rattle.sweep_model.specs.declared.Cause.{Cause}
+use Rattle.table.specs.Table.{inputsOf}
+use lib.ListN.{length, take}
+use mathlib.Core.Bool.{false}
+use mathlib.Core.List.{List, [], _++_, _∷_}
+use mathlib.Core.Path.{_≡_}
+
+-- "then a line each": the line of a comparison.
+abbrev pub callLine : Call → List ℕ
+callLine c = lineFor (c .given .output) (c .left .reply) (take (inputsOf (c .given .table)) (c .left .setting))
+
+unfoldable pub callLines : List Call → List ℕ
+callLines [] = []
+callLines (c ∷ cs) = callLine c ++ callLines cs
+
+-- "compares every output in rising number", "with size and row limits 4,096 and step limit 1,000,000": calls on the outputs from k on.
+pub data Numbered : ℕ → List Call → Type 0 where
+  none : {k : ℕ} → Numbered k []
+  next : {k : ℕ} {c : Call} {cs : List Call} → c .given .output ≡ k → c .given .limits ≡ programLimits → Numbered (suc k) cs → Numbered k (c ∷ cs)
+
+-- A line on output k that is true of two files: `equal` where the output agrees on every setting, `different` with the first setting on
+-- which it does not, or one of the undecided words.
+pub data TrueLine (d e : Netlist) (k : ℕ) : List ℕ → Type 0 where
+  says-equal : (rows steps : ℕ) → Agree d e k → TrueLine d e k (replyLine edition k Equal [] None rows steps)
+  says-different : (rows steps : ℕ) {before after : List ℕ} (s : Separated d e k before after)
+      → TrueLine d e k (replyLine edition k Different (settingBytes (s .setting)) None rows steps)
+  says-undecided : (rows steps : ℕ) (c : Cause) → TrueLine d e k (replyLine edition k (causeWord c) [] (causeVertex c) rows steps)
+
+-- The bytes printed, and the comparisons of which they are the lines.
+pub record Printed (d e : Netlist) (loaded : List ℕ) (report : Report) : Type 0 where
+  pub calls : List Call
+  pub bytes : take (report .count) (report .out) ≡ headLine ++ callLines calls
+  pub count : length calls ≡ length (d .outputs)
+  pub numbered : Numbered 0 calls
+  pub ran : Ran loaded calls (report .table)
+  pub holds : Holds d e loaded calls (report .table)
+  pub true-lines : Each (λ c. TrueLine d e (c .given .output) (callLine c)) calls
+
+abbrev pub PrintedTrue : Type 0
+PrintedTrue =
+    (left right : List ℕ) (lent : Lent) (tally : Tally) (d e : Netlist)
+    → short? lent ≡ false → loadResult left right (loadRoom lent) ≡ accepted tally → readNetlist left ≡ read d → readNetlist right ≡ read e
+    → Printed d e (tableOf d e (lent .table)) (reportOf left right lent)
