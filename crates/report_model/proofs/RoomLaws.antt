@@ -1,24 +1,20 @@
 -- Where there is room for every pair of files, none of the program's comparisons is refused: each leaves the lengths of its slices.
 use Prim.Native.Nat.{_*_, _<_, _≤_, ℕ}
+use Rattle.compare_model.proofs.Demand1.{passes}
 use Rattle.compare_model.proofs.GraphLaws.{count-vertices}
 use Rattle.compare_model.proofs.RefusalLaws.{compared-answered, passed}
-use Rattle.compare_model.proofs.ReplyLaws.{different-replied}
-use Rattle.compare_model.proofs.Since.{given-steady, since-compared, since-loaded}
-use Rattle.compare_model.specs.Compare.{Given, answerTo, answered, beyond?, callTests, outside?, overFront, refusalOf, settingBytes, settingLeft, shortSlice?}
+use Rattle.compare_model.proofs.Since.{given-fits, given-steady, since-compared, since-loaded}
+use Rattle.compare_model.specs.Compare.{Given, answerTo, answered, overFront, problemOf, refusalOf, settingBytes, settingLeft}
 use Rattle.loader.specs.Load.{maxVertices}
 use Rattle.report_model.specs.Report.{next, programLimits, rowLimit}
+use Rattle.sweep_model.proofs.Right.{different-right}
 use Rattle.sweep_model.specs.Sweep.{Verdict, different, equal, undecided}
-use Rattle.table.proofs.AcceptedLaws.{accepts}
-use Rattle.table.proofs.RefusalLaws.{table-passed}
 use Rattle.table.specs.Accepted.{Accepted}
 use Rattle.table.specs.Limits.{maxInputs}
-use Rattle.table.specs.Refusals.{firstRefusal}
-use Rattle.table.specs.Table.{inputsOf, outputsOf, verticesOf}
-use borrow.Author.Tests.{le-ltb, lt-leb}
+use Rattle.table.specs.Table.{outputsOf, verticesOf}
 use lib.ListN.{length, length-append, length-drop, length-map}
-use mathlib.Core.Bool.{false}
 use mathlib.Core.List.{List}
-use mathlib.Core.Path.{_∙_, _≡_, refl}
+use mathlib.Core.Path.{_≡_, refl}
 use native.Mathlib.Omega.{arith}
 
 -- A comparison with the program's limits and slices that are long enough for every table.
@@ -46,7 +42,7 @@ module _ (g : Given) (h : refusalOf g ≡ 0) where
       (omega (arith, given-steady g h .marked, count-vertices (g .table) (g .output) (g .limits), passed g h .room .marked))
 
   setting-kept : length (answered g (answerTo g) .setting) ≡ length (g .setting)
-  unfolding answered settingLeft settingBytes
+  unfolding answerTo answered problemOf settingLeft settingBytes
   setting-kept = go (answerTo g .verdict) refl
     where
       go : (x : Verdict) → answerTo g .verdict ≡ x → length (settingLeft x (g .setting)) ≡ length (g .setting)
@@ -54,43 +50,41 @@ module _ (g : Given) (h : refusalOf g ≡ 0) where
       go (different t) e =
           let digits : length (settingBytes t) ≡ length t = length-map t _ in
           over-length (settingBytes t) (g .setting)
-          (omega (arith, digits, different-replied g h (since-loaded (passed g h .table)) t e .digits, passed g h .setting))
+          (omega (arith, digits, different-right (given-fits g h) t e .digits, passed g h .setting))
       go (undecided c) e = refl
 
 module _ {g : Given} (r : Roomy g) (inside : g .output < outputsOf (g .table)) where
   vertices : verticesOf (g .table) ≤ maxVertices
   vertices = omega (arith, r .table .formed .inputs, r .table .formed .made)
 
-  limits-pass : beyond? (g .limits) ≡ false
-  unfolding beyond? outside?
-  limits-pass = rw (r .limits) refl
-
-  slices-pass : shortSlice? (verticesOf (g .table)) (g .limits .rows) (g .room) (length (g .marks)) ≡ false
-  unfolding shortSlice?
-  slices-pass =
-      rw (
-        le-ltb (g .room .pairs) (2 * verticesOf (g .table)) (omega (arith, vertices, r .pairs)),
-        le-ltb (g .room .look) (2 * verticesOf (g .table)) (omega (arith, vertices, r .look)),
-        le-ltb (g .room .diagrams) (2 * verticesOf (g .table)) (omega (arith, vertices, r .diagrams)),
-      )
-      (rw (
-        le-ltb (g .room .stages) (2 * verticesOf (g .table)) (omega (arith, vertices, r .stages)),
-        r .limits,
-        le-ltb (g .room .rows) (4 * rowLimit) (r .rows),
-        le-ltb (length (g .marks)) (verticesOf (g .table)) (omega (arith, vertices, r .marks)),
-      ) refl)
+  rows-limit : g .limits .rows ≡ rowLimit
+  rows-limit = rw (r .limits) refl
 
   -- It is not refused.
   pub never-refused : refusalOf g ≡ 0
-  unfolding refusalOf firstRefusal
   never-refused =
-      table-passed (g .table) (callTests (g .table) (g .output) (g .limits) (g .room) (length (g .marks)) (length (g .setting))) (accepts (g .table) (r .table))
-      ∙ rw (
-        lt-leb (outputsOf (g .table)) (g .output) inside,
-        limits-pass,
-        slices-pass,
-        le-ltb (length (g .setting)) (inputsOf (g .table)) (omega (arith, r .table .formed .inputs, r .setting)),
-      ) refl
+      passes g
+      (record {
+        table = r .table;
+        output = inside;
+        limits =
+            rw (r .limits)
+            (record {
+              size = record { some = omega arith; bounded = omega arith };
+              rows = record { some = omega arith; bounded = omega arith };
+              steps = record { some = omega arith; bounded = omega arith };
+            });
+        room =
+            record {
+              pairs = omega (arith, vertices, r .pairs);
+              look = omega (arith, vertices, r .look);
+              diagrams = omega (arith, vertices, r .diagrams);
+              stages = omega (arith, vertices, r .stages);
+              diagram-rows = omega (arith, rows-limit, r .rows);
+              marked = omega (arith, vertices, r .marks);
+            };
+        setting = omega (arith, r .table .formed .inputs, r .setting);
+      })
 
   -- The next one has as much room,
   pub roomy-next : Roomy (next g)
