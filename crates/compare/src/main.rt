@@ -1,7 +1,6 @@
 // The program: compares the drawings `left.tsv` and `right.tsv`, and prints a line for each output or why they are refused.
 use libc::STDERR_FILENO;
 use libc::STDOUT_FILENO;
-ghost use Rattle.io.specs.Counts.{Counts};
 
 // A byte more than a file may have, so that a longer one is seen to be too long.
 const FILE_ROOM: usize = netlist::MAX_BYTES + 1;
@@ -13,32 +12,9 @@ const SETTING_ROOM: usize = table::MAX_INPUTS as usize;
 fn main() {
     let mut left = [0u8; FILE_ROOM];
     let mut right = [0u8; FILE_ROOM];
-    let left_end = read_file(b"left.tsv", &mut left);
-    let right_end = read_file(b"right.tsv", &mut right);
+    let left_end = files::read_file(b"left.tsv", &mut left);
+    let right_end = files::read_file(b"right.tsv", &mut right);
     print_report(&left[..left_end], &right[..right_end]);
-}
-
-// Reads the front of a file into `bytes` and gives back how many there are: none of a file that cannot be read.
-fn read_file(path: &[u8], bytes: &mut [u8; FILE_ROOM]) -> usize
-    ensures { λ r. ⌜ Counts r (now (bytes .exit)) ⌝ }
-{
-    let file = os::open_read(path);
-    if file < 0 {
-        return io::count(0, bytes);
-    }
-    let end = io::read_full(file, bytes);
-    let has_failed = fails_to_read(file);
-    libc::close(file);
-    if has_failed {
-        return io::count(0, bytes);
-    }
-    end
-}
-
-// Whether a read of what follows fails. At the end of a file none does.
-fn fails_to_read(file: i32) -> bool {
-    let mut next = [0u8; 1];
-    libc::read(file, &mut next) < 0
 }
 
 fn print_report(left: &[u8], right: &[u8]) {
