@@ -2,9 +2,9 @@
 use Prim.Native.Nat.{_*_, _+_, _-_, _/_, _<_, _≤_, suc, zero, ℕ}
 use Rattle.bdd.proofs.RowsLaws.{child-sees, head-sees, high-packed, length-put, level-packed, level-sees, low-packed, mark-constant, mark-packed, mark-sees, next-sees, owner-packed, owner-sees, put-row, put-same, put-word, word-first, word-second}
 use Rattle.bdd.specs.Diagram.{Canonical, Row}
-use Rattle.bdd.specs.Rows.{RADIX, child, headAt, highAt, levelAt, lowAt, markAt, nextAt, ownerAt, put, wordAt}
-use Rattle.bdd.specs.Store.{Agree, Chains, Kept, Room, Store, bucket, bucketOf}
-use Rattle.bdd.specs.Unique.{Cleared, GivenBack, Grown, Is, NewRow, added, emptied, returned, unlinked}
+use Rattle.bdd.specs.code.Rows.{RADIX, child, headAt, highAt, levelAt, lowAt, markAt, nextAt, ownerAt, put, wordAt}
+use Rattle.bdd.specs.code.Store.{Agree, Chains, Kept, Room, Store, bucket, bucketOf}
+use Rattle.bdd.specs.code.Unique.{Cleared, GivenBack, Grown, Is, NewRow, added, emptied, returned, unlinked}
 use lib.ListN.{length}
 use mathlib.Core.Bool.{Bool, false, true}
 use mathlib.Core.List.{List}

@@ -3,8 +3,8 @@ use Prim.Native.Nat.{_%_, _+_, _-_, _/_, _≤_, suc, zero, ℕ}
 use Rattle.bdd.proofs.ReferenceLaws.{edge-bit, edge-even, edge-injective, edge-inverse, edge-parity, edge-row, edge-same, one-row, parity, reference-equal}
 use Rattle.bdd.proofs.RowsLaws.{level-constant, level-row, suc-pred}
 use Rattle.bdd.specs.Diagram.{Canonical, Reference, Row, cofactor, denote, edge, inverse}
-use Rattle.bdd.specs.Rows.{child, highAt, levelAt, lowAt}
-use Rattle.bdd.specs.Store.{Agree}
+use Rattle.bdd.specs.code.Rows.{child, highAt, levelAt, lowAt}
+use Rattle.bdd.specs.code.Store.{Agree}
 use Rattle.truth.proofs.Equality.{equal-alike, inverse-alike}
 use Rattle.truth.specs.Parts.{alike?}
 use Rattle.truth.specs.Truth.{Perfect, Truth, constantly, halves, invert, leaf, node, valueAt, whole}

@@ -5,9 +5,9 @@ use Rattle.bdd.proofs.DiagramLaws.{canonical, cofactor-hit, cofactor-mi
 use Rattle.bdd.proofs.ReferenceLaws.{double-row, edge-bit, edge-injective, edge-plain, edge-row, edge-twice, row-reference}
 use Rattle.bdd.proofs.StoreLaws.{row-zero, store-new, stored-among, stored-denoted}
 use Rattle.bdd.specs.Diagram.{Canonical, Reference, Row, cofactor, denote, edge, rowFunction, storeOf}
-use Rattle.bdd.specs.Rows.{MARK, highAt, levelAt, lowAt}
-use Rattle.bdd.specs.Store.{Agree, Kept, Store}
-use Rattle.bdd.specs.Unique.{Found, Grown, Is, MadeAt, MadeFull, NewRow, addPart, added, join, plain}
+use Rattle.bdd.specs.code.Rows.{MARK, highAt, levelAt, lowAt}
+use Rattle.bdd.specs.code.Store.{Agree, Kept, Store}
+use Rattle.bdd.specs.code.Unique.{Found, Grown, Is, MadeAt, MadeFull, NewRow, addPart, added, join, plain}
 use Rattle.truth.proofs.Booleans.{not-true}
 use Rattle.truth.proofs.Equality.{invert-twice, same-equal, same-reflexive}
 use Rattle.truth.proofs.Parts.{perfect-depth}

@@ -5,9 +5,9 @@ use Rattle.bdd.proofs.DiagramLaws.{frame}
 use Rattle.bdd.proofs.RowsLaws.{head-sees, high-packed, high-sees, length-put, level-sees, low-sees, mark-sees, next-sees, owner-packed, owner-sees, put-row, put-same, put-word}
 use Rattle.bdd.proofs.StoreLaws.{store-frame}
 use Rattle.bdd.specs.Diagram.{denote, storeOf}
-use Rattle.bdd.specs.Owners.{withOwner}
-use Rattle.bdd.specs.Rows.{RADIX, child, headAt, highAt, nextAt, ownerAt, wordAt}
-use Rattle.bdd.specs.Store.{Agree, Chains, Store, bucketOf}
+use Rattle.bdd.specs.code.Owners.{withOwner}
+use Rattle.bdd.specs.code.Rows.{RADIX, child, headAt, highAt, nextAt, ownerAt, wordAt}
+use Rattle.bdd.specs.code.Store.{Agree, Chains, Store, bucketOf}
 use lib.ListN.{length}
 use mathlib.Core.Bool.{Bool, false, true}
 use mathlib.Core.List.{List}

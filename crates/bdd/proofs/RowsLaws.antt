@@ -1,6 +1,6 @@
 -- Laws of words and fields.
 use Prim.Native.Nat.{_%_, _*_, _+_, _-_, _/_, _<_, _≤_, suc, zero, ℕ}
-use Rattle.bdd.specs.Rows.{MARK, RADIX, child, headAt, highAt, levelAt, lowAt, markAt, nextAt, ownerAt, put, wordAt}
+use Rattle.bdd.specs.code.Rows.{MARK, RADIX, child, headAt, highAt, levelAt, lowAt, markAt, nextAt, ownerAt, put, wordAt}
 use lib.ListN.{getD, length, length-set, set}
 use lib.Seq.{ext-getD, getD-set-other, getD-set-same}
 use mathlib.Core.Bool.{Bool, false, true}

@@ -4,8 +4,8 @@ use Rattle.bdd.proofs.DiagramLaws.{canonical, cofactor-below, cofactor-
 use Rattle.bdd.proofs.ReferenceLaws.{one-row}
 use Rattle.bdd.proofs.StoreLaws.{alike-row}
 use Rattle.bdd.specs.Diagram.{Canonical, Reference, cofactor, denote}
-use Rattle.bdd.specs.Rows.{levelAt}
-use Rattle.bdd.specs.Split.{EndsAt, GoesOn, Halved}
+use Rattle.bdd.specs.code.Rows.{levelAt}
+use Rattle.bdd.specs.code.Split.{EndsAt, GoesOn, Halved}
 use Rattle.bdd.specs.declared.references.Halves.{Halves}
 use Rattle.truth.proofs.Booleans.{clash, not-true, or-cases, or-left, or-right}
 use Rattle.truth.proofs.Equality.{agree-equal, constant-equal, constantly-constant, same-equal}

@@ -4,8 +4,8 @@ use Rattle.bdd.proofs.DiagramLaws.{canonical, canonical-inverse, cofact
 use Rattle.bdd.proofs.ReferenceLaws.{double-even, double-row, edge-even, edge-row}
 use Rattle.bdd.proofs.RowsLaws.{child-constant, level-constant}
 use Rattle.bdd.specs.Diagram.{Canonical, Reach, Reference, along, arrived, cofactor, denote, edge, inverse, rowFunction, storeOf}
-use Rattle.bdd.specs.Rows.{child, highAt, levelAt, lowAt}
-use Rattle.bdd.specs.Store.{Agree}
+use Rattle.bdd.specs.code.Rows.{child, highAt, levelAt, lowAt}
+use Rattle.bdd.specs.code.Store.{Agree}
 use Rattle.truth.proofs.Booleans.{clash, not-true, or-cases, or-left, or-right}
 use Rattle.truth.proofs.Distinct.{among-append, among-congruent, apart-distinct, distinct-same}
 use Rattle.truth.proofs.Equality.{alike-cases, same-equal, same-reflexive}

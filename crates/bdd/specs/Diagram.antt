@@ -1,6 +1,6 @@
 -- Reduced ordered decision diagrams: the function of a reference, and canonical form.
 use Prim.Native.Nat.{_%_, _*_, _+_, _/_, _<_, _≤_, suc, zero, ℕ}
-use Rattle.bdd.specs.Rows.{child, highAt, levelAt, lowAt}
+use Rattle.bdd.specs.code.Rows.{child, highAt, levelAt, lowAt}
 use Rattle.truth.specs.Truth.{Truth, leaf, node}
 use lib.Dec.{eqb}
 use mathlib.Core.Bool.{Bool, cond, false, true}

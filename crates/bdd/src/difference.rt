@@ -3,7 +3,7 @@ use crate::references::cofactor_of;
 ghost use Prim.Native.Nat.{_*_, _/_, _≤_};
 ghost use Rattle.bdd.specs.Diagram.{Reference, denote};
 ghost use Rattle.bdd.specs.Difference.{Chosen, digits};
-ghost use Rattle.bdd.specs.Store.{Store};
+ghost use Rattle.bdd.specs.code.Store.{Store};
 ghost use Rattle.truth.specs.Settings.{firstDifference};
 ghost use lib.ListN.{drop, length};
 ghost use mathlib.Core.List.{_++_};

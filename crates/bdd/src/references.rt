@@ -3,7 +3,7 @@ use crate::rows::child_of;
 use crate::rows::level_of;
 ghost use Prim.Native.Nat.{_*_, _/_, _≤_, max};
 ghost use Rattle.bdd.specs.Diagram.{cofactor, edge};
-ghost use Rattle.bdd.specs.Split.{Ends, Halved};
+ghost use Rattle.bdd.specs.code.Split.{Ends, Halved};
 ghost use lib.ListN.{length};
 ghost use mathlib.Core.Path.{_≡_};
 

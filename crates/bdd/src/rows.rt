@@ -1,7 +1,7 @@
 // Rows of four words in a lent slice. Row i (from 1 on) stands at (i - 1) * 4; row 0 is the constant and is not stored.
 ghost use Prim.Native.Nat.{_*_, _+_, _<_, _^_, _≤_};
-ghost use Rattle.bdd.specs.Owners.{withOwner};
-ghost use Rattle.bdd.specs.Rows.{MARK, RADIX, child, headAt, highAt, levelAt, lowAt, markAt, nextAt, ownerAt, put, wordAt};
+ghost use Rattle.bdd.specs.code.Owners.{withOwner};
+ghost use Rattle.bdd.specs.code.Rows.{MARK, RADIX, child, headAt, highAt, levelAt, lowAt, markAt, nextAt, ownerAt, put, wordAt};
 ghost use lib.ListN.{length};
 ghost use mathlib.Core.Path.{_≡_};
 

@@ -7,9 +7,9 @@ use crate::rows::put_word;
 use crate::rows::word_of;
 ghost use Prim.Native.Nat.{_*_, _/_, _≤_};
 ghost use Rattle.bdd.specs.Diagram.{Canonical};
-ghost use Rattle.bdd.specs.Marks.{Marks, Sized, WipeReady, Wipes, marked, wiped};
-ghost use Rattle.bdd.specs.Rows.{markAt};
-ghost use Rattle.bdd.specs.Store.{Store};
+ghost use Rattle.bdd.specs.code.Marks.{Marks, Sized, WipeReady, Wipes, marked, wiped};
+ghost use Rattle.bdd.specs.code.Rows.{markAt};
+ghost use Rattle.bdd.specs.code.Store.{Store};
 ghost use lib.ListN.{length};
 ghost use mathlib.Core.Path.{_≡_};
 

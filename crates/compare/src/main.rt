@@ -5,7 +5,7 @@ use libc::STDOUT_FILENO;
 // A byte more than a file may have, so that a longer one is seen to be too long.
 const FILE_ROOM: usize = netlist::MAX_BYTES + 1;
 
-const WORKING_ROOM: usize = 2 * loader_graph::MAX_VERTICES;
+const WORKING_ROOM: usize = 2 * load_graph::MAX_VERTICES;
 
 const SETTING_ROOM: usize = table::MAX_INPUTS as usize;
 
@@ -25,7 +25,7 @@ fn print_report(left: &[u8], right: &[u8]) {
     let mut diagrams = [0u32; WORKING_ROOM];
     let mut stages = [0u32; WORKING_ROOM];
     let mut rows = [0u32; report_model::ROWS_ROOM];
-    let mut marks = [0u8; loader_graph::MAX_VERTICES];
+    let mut marks = [0u8; load_graph::MAX_VERTICES];
     let mut setting = [0u8; SETTING_ROOM];
     let end = report_pair::report_pair(
         left,

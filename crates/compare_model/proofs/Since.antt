@@ -10,7 +10,7 @@ use Rattle.compare_model.proofs.RefusalLaws.{compared-answered, compare
 use Rattle.compare_model.specs.Claims.{problemBy}
 use Rattle.compare_model.specs.Compare.{Given, answerTo, answered, compared, graphWords, problemOf, refusalOf, turnedBack}
 use Rattle.sweep_model.proofs.Kept.{operands-kept, sweep-steady}
-use Rattle.sweep_model.specs.Steady.{Steady}
+use Rattle.sweep_model.specs.code.Steady.{Steady}
 use Rattle.sweep_model.specs.Fit.{Fit, vertexCount}
 use Rattle.sweep_model.specs.Normalise.{merged?}
 use Rattle.table.proofs.FunctionLaws.{value-output}

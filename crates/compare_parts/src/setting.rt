@@ -2,7 +2,7 @@
 use bdd::difference::first_difference;
 ghost use Prim.Native.Nat.{_≤_};
 ghost use Rattle.bdd.specs.Diagram.{Reference, denote};
-ghost use Rattle.bdd.specs.Store.{Store};
+ghost use Rattle.bdd.specs.code.Store.{Store};
 ghost use Rattle.compare_model.specs.Compare.{settingLeft};
 ghost use Rattle.sweep_model.specs.Sweep.{different};
 ghost use Rattle.truth.specs.Settings.{firstDifference};

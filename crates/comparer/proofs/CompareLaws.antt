@@ -4,9 +4,9 @@ use Rattle.compare_model.proofs.RefusalLaws.{compared-answered, compared-refuse
 use Rattle.compare_model.specs.Compare.{Given, answerTo, answered, callTests, compared, refusalOf, saidBy, settingLeft, tableLeft, turnedBack}
 use Rattle.compare_model.specs.Passed.{Passed}
 use Rattle.compare_model.specs.Said.{Said, saidOf}
-use Rattle.compare_parts.specs.Code.{left}
-use Rattle.comparer.specs.Work.{Finishes, Ran}
-use Rattle.sweep_parts.specs.Ending.{verdictOf}
+use Rattle.compare_parts.specs.code.Code.{left}
+use Rattle.comparer.specs.code.Work.{Finishes, Ran}
+use Rattle.sweep_parts.specs.code.Ending.{verdictOf}
 use Rattle.sweep_parts.specs.declared.end.Ended.{Ended}
 use Rattle.sweep_model.specs.Sweep.{Verdict}
 use Rattle.sweep_model.specs.declared.Reply.the-variants.{Refused}

@@ -5,13 +5,13 @@ use Rattle.compare_model.proofs.GraphLaws.{count-vertices, fits, length-graph}
 use Rattle.compare_model.specs.Compare.{answerTo, graphWords, overFront, problemOf}
 use Rattle.compare_model.specs.Passed.{Enough, LimitsWithin}
 use Rattle.compare_model.specs.declared.Limits.{Limits}
-use Rattle.compare_parts.specs.Code.{given, limitsOf, roomOfLists}
-use Rattle.comparer.specs.Work.{Posed, Ran}
-use Rattle.sweep_parts.specs.Ending.{verdictOf}
-use Rattle.sweep_parts.specs.Sheets.{sheets}
-use Rattle.sweep_parts.specs.Meet.{Board, board}
-use Rattle.sweep_start.specs.Start.{Poses, SweepAsked}
-use Rattle.sweep.specs.Sweep.{Answers, Sweeps}
+use Rattle.compare_parts.specs.code.Code.{given, limitsOf, roomOfLists}
+use Rattle.comparer.specs.code.Work.{Posed, Ran}
+use Rattle.sweep_parts.specs.code.Ending.{verdictOf}
+use Rattle.sweep_parts.specs.code.Sheets.{sheets}
+use Rattle.sweep_parts.specs.code.Meet.{Board, board}
+use Rattle.sweep_start.specs.code.Start.{Poses, SweepAsked}
+use Rattle.sweep.specs.code.Sweep.{Answers, Sweeps}
 use Rattle.sweep_parts.specs.declared.end.Ended.{Ended}
 use Rattle.sweep_parts.specs.declared.task.Task.{Task}
 use Rattle.sweep_model.proofs.Kept.{sweep-steady}

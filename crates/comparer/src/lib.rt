@@ -8,7 +8,7 @@ use compare_parts::refusal::Lengths;
 use sweep_model::Reply;
 ghost use Rattle.compare_model.specs.Compare.{compared, refusalOf};
 ghost use Rattle.compare_model.specs.Said.{saidOf};
-ghost use Rattle.compare_parts.specs.Code.{Unchanged, given, left};
+ghost use Rattle.compare_parts.specs.code.Code.{Unchanged, given, left};
 ghost use mathlib.Core.Path.{_≡_};
 
 // Compares output number `output` of the two sides of a table. The reply is one of:

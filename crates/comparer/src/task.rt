@@ -2,7 +2,7 @@
 use compare_model::Limits;
 use sweep_parts::task::Task;
 ghost use Prim.Native.Nat.{_<_};
-ghost use Rattle.comparer.specs.Work.{Posed};
+ghost use Rattle.comparer.specs.code.Work.{Posed};
 ghost use Rattle.table.specs.Accepted.{WellFormed};
 ghost use Rattle.table.specs.Table.{outputsOf};
 

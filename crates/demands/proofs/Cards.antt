@@ -4,10 +4,10 @@ use Rattle.aig.specs.Lookup.{firstVertex, ownWords}
 use Rattle.compare_model.specs.Compare.{answerTo, answered, beyond?, compared, graphWords, outputsLeft, outside?, problemOf, refusalOf, saidBy, settingBytes, settingLeft, tableLeft, turnedBack}
 use Rattle.compare_model.specs.Compare.{shortSlice? as slices?}
 use Rattle.demands.specs.Cards.{Cards, Replying, loadedTable, outputFile}
-use Rattle.loader.proofs.Cards.{loading}
-use Rattle.loader.specs.Build.{askAnd, askGate, askGates, buildFile, buildPair, emptyBuild, foldedOrNot, foundOrMade, literalsFrom}
-use Rattle.loader.specs.Cards.{andFile, orFile}
-use Rattle.loader.specs.Load.{countsDiffer?, loadResult, maxTable, readResult, shortSlice?, tableAfter, tableOf, tableWords, tallyOf}
+use Rattle.load_model.proofs.Cards.{loading}
+use Rattle.load_model.specs.Build.{askAnd, askGate, askGates, buildFile, buildPair, emptyBuild, foldedOrNot, foundOrMade, literalsFrom}
+use Rattle.load_model.specs.Cards.{andFile, orFile}
+use Rattle.load_model.specs.Load.{countsDiffer?, loadResult, maxTable, readResult, shortSlice?, tableAfter, tableOf, tableWords, tallyOf}
 use Rattle.netlist.specs.Check.{below?, checkFile, checkFrom, due?, dueAfter, finish, formed?, gatesIn, header?, known?, limited?, more?, outputsIn, readBy, readNetlist}
 use Rattle.netlist.specs.Meaning.{andCount}
 use Rattle.netlist.specs.Records.{fieldsRecord, fileRecords, operationOf, recordOf, recordsOf, unended}

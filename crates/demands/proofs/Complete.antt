@@ -9,8 +9,8 @@ use Rattle.demands.proofs.Demand3.{each-call, loaded-files, since-first
 use Rattle.demands.proofs.ReplyLaws.{reply-kept}
 use Rattle.demands.specs.Claims.{ReplyKept}
 use Rattle.demands.specs.Complete.{Complete, Decided, Suffice, is-different, is-equal}
-use Rattle.loader.specs.Load.{tableOf}
-use Rattle.loader.specs.Loadable.{Loadable}
+use Rattle.load_model.specs.Load.{tableOf}
+use Rattle.load_model.specs.Loadable.{Loadable}
 use Rattle.netlist.specs.Netlist.{Netlist}
 use mathlib.Core.List.{List}
 use mathlib.Core.Path.{_≡_}

@@ -8,11 +8,11 @@ use Rattle.demands.proofs.FileLaws.{table-inputs, table-outputs, table-
 use Rattle.demands.proofs.ReplyLaws.{reply-kept}
 use Rattle.demands.specs.Claims.{ReplyKept}
 use Rattle.demands.specs.Demand3.{Call, Demand3, Each, Holds, Ran}
-use Rattle.loader.proofs.LoadLaws.{load-only}
-use Rattle.loader.proofs.TableLaws.{table-accepted}
-use Rattle.loader.specs.Load.{Room, accepted, loadResult, tableOf}
-use Rattle.loader.specs.Loadable.{Loadable}
-use Rattle.loader.specs.declared.Tally.{Tally}
+use Rattle.load_model.proofs.LoadLaws.{load-only}
+use Rattle.load_model.proofs.TableLaws.{table-accepted}
+use Rattle.load_model.specs.Load.{Room, accepted, loadResult, tableOf}
+use Rattle.load_model.specs.Loadable.{Loadable}
+use Rattle.load_model.specs.declared.Tally.{Tally}
 use Rattle.netlist.specs.Check.{read, readNetlist}
 use Rattle.netlist.specs.Netlist.{Netlist}
 use mathlib.Core.List.{List}

@@ -11,10 +11,10 @@ use Rattle.demands.specs.Claims.{gatesAnds}
 use Rattle.demands.specs.Complete.{Decided, Suffice}
 use Rattle.demands.specs.Demand3.{Call, Each, Holds, Ran}
 use Rattle.demands.specs.Example.{Example, after, before, firstCall, leastLimits, oneGate, otherFile, secondCall, sizeOne, thirdCall}
-use Rattle.loader.specs.Build.{askAnd, askGate, askGates, buildFile, buildPair, emptyBuild, foldedOrNot, foundOrMade, literalsFrom}
-use Rattle.loader.specs.Cards.{andFile, room}
-use Rattle.loader.specs.Load.{accepted, countsDiffer?, loadResult, readResult, tableOf, tableWords, tallyOf}
-use Rattle.loader.specs.Load.{shortSlice? as shortLoad?}
+use Rattle.load_model.specs.Build.{askAnd, askGate, askGates, buildFile, buildPair, emptyBuild, foldedOrNot, foundOrMade, literalsFrom}
+use Rattle.load_model.specs.Cards.{andFile, room}
+use Rattle.load_model.specs.Load.{accepted, countsDiffer?, loadResult, readResult, tableOf, tableWords, tallyOf}
+use Rattle.load_model.specs.Load.{shortSlice? as shortLoad?}
 use Rattle.netlist.specs.Check.{below?, checkFile, checkFrom, due?, dueAfter, finish, formed?, gatesIn, header?, known?, limited?, more?, outputsIn, read, readBy, readNetlist}
 use Rattle.netlist.specs.Meaning.{andCount, andsFrom, fileAnds, gateAnds, operationFunction}
 use Rattle.netlist.specs.Records.{fieldsRecord, fileRecords, operationOf, recordOf, recordsOf, unended}

@@ -4,15 +4,15 @@ use Rattle.compare_model.proofs.GraphLaws.{count-vertices, made-row}
 use Rattle.compare_model.proofs.ReplyLaws.{sum-fewer}
 use Rattle.compare_model.specs.Compare.{graphWords, problemOf}
 use Rattle.demands.specs.Claims.{TooLarge, TooManyParts, TooManySteps, gatesAnds, sideValue}
-use Rattle.loader.proofs.AndLaws.{made-function, made-parts, rows-from, rows-total}
-use Rattle.loader.proofs.FromLaws.{place-within, placeIn}
-use Rattle.loader.proofs.PairLaws.{length-left}
-use Rattle.loader.proofs.ValueLaws.{left-value, right-value}
-use Rattle.loader.specs.From.{total}
-use Rattle.loader.specs.Functions.{rowOperands}
-use Rattle.loader.specs.Load.{tableOf, tableWords}
-use Rattle.loader.specs.Loadable.{Loadable}
-use Rattle.loader.specs.Valued.{operandsOf}
+use Rattle.load_model.proofs.AndLaws.{made-function, made-parts, rows-from, rows-total}
+use Rattle.load_model.proofs.FromLaws.{place-within, placeIn}
+use Rattle.load_model.proofs.PairLaws.{length-left}
+use Rattle.load_model.proofs.ValueLaws.{left-value, right-value}
+use Rattle.load_model.specs.code.From.{total}
+use Rattle.load_model.specs.code.Functions.{rowOperands}
+use Rattle.load_model.specs.Load.{tableOf, tableWords}
+use Rattle.load_model.specs.Loadable.{Loadable}
+use Rattle.load_model.specs.code.Valued.{operandsOf}
 use Rattle.netlist.specs.Netlist.{Netlist}
 use Rattle.sweep_model.proofs.Marked.{ands-at, ands-length, marked-part}
 use Rattle.sweep_model.specs.Claims.{And, andFunction, andSteps, andsFrom, andsOf, marked, sum}

@@ -3,8 +3,8 @@ use Rattle.demands.proofs.Complete.{complete}
 use Rattle.demands.proofs.Demand3.{demand3}
 use Rattle.demands.specs.Demand3.{Ran}
 use Rattle.demands.specs.FromFiles.{FromFiles}
-use Rattle.loader.proofs.LoadLaws.{load-only, load-table}
-use Rattle.loader.specs.Load.{accepted, answerOf, loadResult, tableOf}
+use Rattle.load_model.proofs.LoadLaws.{load-only, load-table}
+use Rattle.load_model.specs.Load.{accepted, answerOf, loadResult, tableOf}
 use mathlib.Core.Path.{_∙_, _≡_, ap, sym}
 
 -- From the files' bytes.

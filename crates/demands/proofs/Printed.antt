@@ -10,10 +10,10 @@ use Rattle.demands.specs.Claims.{ReplyKept}
 use Rattle.demands.specs.Demand3.{Call, Each, Ran}
 use Rattle.demands.specs.Example.{callOf}
 use Rattle.demands.specs.Printed.{Numbered, PrintedTrue, TrueLine, callLine, callLines, says-different, says-equal, says-undecided}
-use Rattle.loader.proofs.LoadLaws.{load-only}
-use Rattle.loader.proofs.TableLaws.{table-accepted}
-use Rattle.loader.specs.Load.{accepted, tableAfter, tableOf}
-use Rattle.loader.specs.Loadable.{Loadable}
+use Rattle.load_model.proofs.LoadLaws.{load-only}
+use Rattle.load_model.proofs.TableLaws.{table-accepted}
+use Rattle.load_model.specs.Load.{accepted, tableAfter, tableOf}
+use Rattle.load_model.specs.Loadable.{Loadable}
 use Rattle.netlist.specs.Check.{readNetlist}
 use Rattle.netlist.specs.Limits.{edition}
 use Rattle.netlist.specs.Netlist.{Netlist}

@@ -8,8 +8,8 @@ use Rattle.compare_model.specs.Compare.{Given, compared, problemOf, refusalOf, 
 use Rattle.compare_model.specs.Said.{Said}
 use Rattle.demands.proofs.FileLaws.{table-inputs, table-outputs, table-value, too-large, too-many-parts, too-many-steps}
 use Rattle.demands.specs.Claims.{Agree, ReplyKept, Separated, sideValue}
-use Rattle.loader.specs.Load.{tableOf}
-use Rattle.loader.specs.Loadable.{Loadable}
+use Rattle.load_model.specs.Load.{tableOf}
+use Rattle.load_model.specs.Loadable.{Loadable}
 use Rattle.netlist.specs.Netlist.{Netlist}
 use Rattle.sweep_model.specs.Claims.{is, isEither}
 use Rattle.table.specs.Table.{graphOf, outputValue}

@@ -3,8 +3,8 @@
 use Prim.Native.Nat.{_*_, ℕ}
 use Rattle.compare_model.specs.Compare.{Given, Left, compared}
 use Rattle.compare_model.specs.Said.{Said}
-use Rattle.loader.specs.Cards.{Loading, andFile, orFile, tableLeft}
-use Rattle.loader.specs.Load.{maxTable, maxVertices}
+use Rattle.load_model.specs.Cards.{Loading, andFile, orFile, tableLeft}
+use Rattle.load_model.specs.Load.{maxTable, maxVertices}
 use Rattle.sweep_model.specs.State.{Limits}
 use Rattle.table.specs.Table.{inputsOf, verticesOf}
 use Rattle.truth.specs.Cards.{PartsAndSteps}

@@ -4,8 +4,8 @@ use Rattle.compare_model.specs.Compare.{refusalOf}
 use Rattle.compare_model.specs.Said.{Said}
 use Rattle.demands.specs.Claims.{Agree, TooLarge, TooManyParts, TooManySteps}
 use Rattle.demands.specs.Demand3.{Call, Each, Ran}
-use Rattle.loader.specs.Load.{Room, accepted, loadResult, tableOf}
-use Rattle.loader.specs.declared.Tally.{Tally}
+use Rattle.load_model.specs.Load.{Room, accepted, loadResult, tableOf}
+use Rattle.load_model.specs.declared.Tally.{Tally}
 use Rattle.netlist.specs.Check.{read, readNetlist}
 use Rattle.netlist.specs.Netlist.{Netlist}
 use Rattle.sweep_model.specs.State.{Limits}

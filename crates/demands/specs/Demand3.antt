@@ -3,8 +3,8 @@ use Prim.Native.Nat.{_<_, ℕ}
 use Rattle.compare_model.specs.Claims.{MarksKept, ReplySays, problemBy}
 use Rattle.compare_model.specs.Compare.{Given, Left, compared, refusalOf}
 use Rattle.demands.specs.Claims.{ReplyKept, sideValue}
-use Rattle.loader.specs.Load.{Room, accepted, loadResult, tableOf}
-use Rattle.loader.specs.declared.Tally.{Tally}
+use Rattle.load_model.specs.Load.{Room, accepted, loadResult, tableOf}
+use Rattle.load_model.specs.declared.Tally.{Tally}
 use Rattle.netlist.specs.Check.{read, readNetlist}
 use Rattle.netlist.specs.Netlist.{Netlist}
 use Rattle.table.specs.Table.{graphOf, outputValue}

@@ -6,8 +6,8 @@ use Rattle.compare_model.specs.Said.{Said}
 use Rattle.demands.specs.Cards.{comparisonOf, usual}
 use Rattle.demands.specs.Complete.{Suffice}
 use Rattle.demands.specs.Demand3.{Call, Ran}
-use Rattle.loader.specs.Cards.{andFile, room, withOneGate}
-use Rattle.loader.specs.Load.{accepted, loadResult, maxTable, tableOf}
+use Rattle.load_model.specs.Cards.{andFile, room, withOneGate}
+use Rattle.load_model.specs.Load.{accepted, loadResult, maxTable, tableOf}
 use Rattle.netlist.specs.Check.{read, readNetlist}
 use Rattle.netlist.specs.Netlist.{Netlist}
 use Rattle.netlist.specs.declared.records.Operation.the-variants.{And, Or}

@@ -3,10 +3,10 @@ use Prim.Native.Nat.{ℕ}
 use Rattle.compare_model.specs.Compare.{refusalOf}
 use Rattle.demands.specs.Complete.{Decided, Suffice}
 use Rattle.demands.specs.Demand3.{Call, Each, Holds, Ran}
-use Rattle.loader.specs.Load.{Room, answerOf, loadResult, tableAfter}
-use Rattle.loader.specs.declared.Loaded.the-variants.{Accepted}
-use Rattle.loader.specs.declared.Loaded.{Loaded}
-use Rattle.loader.specs.declared.Tally.{Tally}
+use Rattle.load_model.specs.Load.{Room, answerOf, loadResult, tableAfter}
+use Rattle.load_model.specs.declared.Loaded.the-variants.{Accepted}
+use Rattle.load_model.specs.declared.Loaded.{Loaded}
+use Rattle.load_model.specs.declared.Tally.{Tally}
 use Rattle.netlist.specs.Check.{read, readNetlist}
 use Rattle.netlist.specs.Netlist.{Netlist}
 use mathlib.Core.List.{List}

@@ -4,12 +4,12 @@ use Prim.Native.Nat.{suc, ℕ}
 use Rattle.compare_model.specs.Compare.{settingBytes}
 use Rattle.demands.specs.Claims.{Agree, Separated}
 use Rattle.demands.specs.Demand3.{Call, Each, Holds, Ran}
-use Rattle.loader.specs.Load.{accepted, loadResult, tableOf}
-use Rattle.loader.specs.declared.Tally.{Tally}
+use Rattle.load_model.specs.Load.{accepted, loadResult, tableOf}
+use Rattle.load_model.specs.declared.Tally.{Tally}
 use Rattle.netlist.specs.Check.{read, readNetlist}
 use Rattle.netlist.specs.Limits.{edition}
 use Rattle.netlist.specs.Netlist.{Netlist}
-use Rattle.reply_line.specs.Cause.{causeVertex, causeWord}
+use Rattle.reply_line.specs.code.Cause.{causeVertex, causeWord}
 use Rattle.reply_line.specs.Line.{lineFor}
 use Rattle.report.specs.Report.{headLine, replyLine}
 use Rattle.report.specs.declared.fields.Vertex.the-variants.{None}

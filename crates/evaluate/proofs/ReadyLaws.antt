@@ -4,7 +4,7 @@ use Rattle.aig.specs.Literal.{vertexOf}
 use Rattle.aig.specs.Values.{literalValue}
 use Rattle.evaluate.proofs.NumberLaws.{bit-numbers, bits-mapped, literal-taken, vertex-bit}
 use Rattle.evaluate.specs.Evaluate.{Ready, bit, callTests, digitsOf, evaluateTests, evaluatedValue, evaluation, refused, side?, unknown?, valued}
-use Rattle.evaluate.specs.Values.{Bits, numberLiteral, numberValues}
+use Rattle.evaluate.specs.code.Values.{Bits, numberLiteral, numberValues}
 use Rattle.table.proofs.AcceptedLaws.{accepted, side-output-below}
 use Rattle.table.proofs.LayoutLaws.{graph-outputs}
 use Rattle.table.proofs.MeaningLaws.{literal-mapped, values-mapped}

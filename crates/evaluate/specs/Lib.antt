@@ -1,3 +1,3 @@
 pub mod Evaluable
 pub mod Evaluate
-pub mod Values
+pub mod code

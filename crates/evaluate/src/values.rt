@@ -5,7 +5,7 @@ use table::HEADER;
 ghost use Prim.Native.Nat.{_*_, _+_, _<_, _≤_};
 ghost use Rattle.aig.specs.Literal.{vertexOf};
 ghost use Rattle.evaluate.specs.Evaluate.{Ready, allDigits?, bit, digitsOf, evaluatedValue};
-ghost use Rattle.evaluate.specs.Values.{Bits, numberLiteral, numberRow, numberValues};
+ghost use Rattle.evaluate.specs.code.Values.{Bits, numberLiteral, numberRow, numberValues};
 ghost use Rattle.table.specs.Accepted.{Accepted, RowBelow};
 ghost use Rattle.table.specs.Table.{inputsOf, rowAt, rowsOf, verticesOf};
 ghost use lib.ListN.{getD, length, take};

@@ -1,7 +1,7 @@
 -- The literals of a file's first vertices, words copied, and the table, each written over a list.
 use Prim.Native.Nat.{_*_, _+_, _-_, _<_, _≤_, ℕ}
-use Rattle.loader.specs.Build.{literalsFrom}
-use Rattle.loader_graph.proofs.Writing.{Writing, ahead-one, writing-begins, writing-ends, writing-turn}
+use Rattle.load_model.specs.Build.{literalsFrom}
+use Rattle.load_graph.proofs.Writing.{Writing, ahead-one, writing-begins, writing-ends, writing-turn}
 use Rattle.text.proofs.DecimalLaws.{stored-append}
 use Rattle.text.specs.Decimal.{Stored, written}
 use lib.ListN.{drop, drop-of-length-le, getD, length, length-append, length-set, set}

@@ -1,20 +1,20 @@
 -- What the decision says of load's result: the same refusal, or that all the tests are passed.
 use Prim.Native.Nat.{_*_, _+_, _≤_, ℕ}
-use Rattle.loader.specs.Load.{Room, accepted, countsDiffer?, loadResult, maxTable, maxVertices, pairTests, readResult, refused, shortSlice?, tableAfter, tableOf, tallyOf}
-use Rattle.loader.specs.declared.Tally.{Tally}
-use Rattle.load.specs.Decision.{checkedAs, decision, pairDecision, readDecision}
-use Rattle.load.specs.File.{netlistOf}
-use Rattle.load.specs.Pair.{Agreed, Enough}
+use Rattle.load_model.specs.Load.{Room, accepted, countsDiffer?, loadResult, maxTable, maxVertices, pairTests, readResult, refused, shortSlice?, tableAfter, tableOf, tallyOf}
+use Rattle.load_model.specs.declared.Tally.{Tally}
+use Rattle.load.specs.code.Decision.{checkedAs, decision, pairDecision, readDecision}
+use Rattle.load.specs.code.File.{netlistOf}
+use Rattle.load.specs.code.Pair.{Agreed, Enough}
 use Rattle.load.specs.declared.decision.Decision.the-variants.{Go, Refused}
 use Rattle.load.specs.declared.decision.Decision.{Decision}
 use Rattle.netlist.proofs.Choices.{cond-cases}
 use Rattle.netlist.proofs.ReadLaws.{accepted-holds}
-use Rattle.netlist.specs.Accepted.{Holds}
+use Rattle.netlist.specs.code.Accepted.{Holds}
 use Rattle.netlist.specs.Check as check
 use Rattle.netlist.specs.Check.{answerOf, checkFile, readBy, readNetlist}
 use Rattle.netlist.specs.Limits.{maxBytes}
 use Rattle.netlist.specs.Meaning.{andCount}
-use Rattle.netlist.specs.Passing.{StartsAt}
+use Rattle.netlist.specs.code.Passing.{StartsAt}
 use Rattle.netlist.specs.declared.check.Checked.the-variants as checked
 use Rattle.netlist.specs.declared.check.Checked.{Checked}
 use Rattle.netlist.specs.declared.check.Summary.{Summary}

@@ -1,9 +1,9 @@
 -- One file loaded: its gates and then its outputs, as the file holds them.
 use Prim.Native.Nat.{_*_, _+_, _<_, _≤_, suc, zero, ℕ}
-use Rattle.loader.specs.Build.{Build, Traced, askGates, buildFile, literalFor, literalsFrom}
+use Rattle.load_model.specs.Build.{Build, Traced, askGates, buildFile, literalFor, literalsFrom}
 use Rattle.load.proofs.Passing.{gates-in, literal-front, outputs-in}
-use Rattle.load.specs.File.{GatesAhead, GatesPassed, OutputsAhead}
-use Rattle.netlist.specs.Accepted.{Holds}
+use Rattle.load.specs.code.File.{GatesAhead, GatesPassed, OutputsAhead}
+use Rattle.netlist.specs.code.Accepted.{Holds}
 use Rattle.netlist.specs.Check.{gatesIn, outputsIn}
 use Rattle.netlist.specs.Netlist as netlist
 use Rattle.netlist.specs.Netlist.{AllBelow, Netlist, bodyRecords}

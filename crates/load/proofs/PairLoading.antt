@@ -1,13 +1,13 @@
 -- Both files loaded, one after the other, and the table of their graph.
 use Prim.Native.Nat.{_*_, _+_, _-_, _≤_, ℕ}
-use Rattle.loader.proofs.PairLaws.{left-step, length-left, length-right, pair-good, pair-step}
-use Rattle.loader.specs.Build.{Build, buildFile, buildPair, emptyBuild}
-use Rattle.loader.specs.Load.{maxTable, maxVertices, tableOf, tableWords, tallyOf}
-use Rattle.loader.specs.declared.Tally.{Tally}
+use Rattle.load_model.proofs.PairLaws.{left-step, length-left, length-right, pair-good, pair-step}
+use Rattle.load_model.specs.Build.{Build, buildFile, buildPair, emptyBuild}
+use Rattle.load_model.specs.Load.{maxTable, maxVertices, tableOf, tableWords, tallyOf}
+use Rattle.load_model.specs.declared.Tally.{Tally}
 use Rattle.load.proofs.FileLoading.{inputs-few, outputs-few}
 use Rattle.load.proofs.TableWords.{words-are}
-use Rattle.load.specs.File.{netlistOf}
-use Rattle.load.specs.Pair.{Agreed, TableRoom, pairOf, wordsOf}
+use Rattle.load.specs.code.File.{netlistOf}
+use Rattle.load.specs.code.Pair.{Agreed, TableRoom, pairOf, wordsOf}
 use Rattle.netlist.specs.Meaning.{andCount}
 use Rattle.netlist.specs.Netlist.{Netlist}
 use Rattle.netlist.specs.declared.check.Summary.{Summary}

@@ -2,12 +2,12 @@
 use Prim.Native.Nat.{_*_, _+_, _<_, _≤_, ℕ}
 use Rattle.aig.specs.Literal.{lit, vertexOf}
 use Rattle.aig.specs.declared.literal.Literal.{Literal}
-use Rattle.loader.specs.Build.{Build, Built, Traced, askGate, askGates, literalFor, withGate}
-use Rattle.loader_graph.proofs.Asking.{gate-asked}
-use Rattle.loader_graph.proofs.Writing.{Writing, writing-begins, writing-ends, writing-turn}
-use Rattle.loader_graph.specs.Slices.{tracedOf}
-use Rattle.loader_graph.specs.declared.Counts.{Counts}
-use Rattle.load.specs.File.{GateLine, GatesAhead, GatesPassed, OutputLine, OutputsAhead}
+use Rattle.load_model.specs.Build.{Build, Built, Traced, askGate, askGates, literalFor, withGate}
+use Rattle.load_graph.proofs.Asking.{gate-asked}
+use Rattle.load_graph.proofs.Writing.{Writing, writing-begins, writing-ends, writing-turn}
+use Rattle.load_graph.specs.code.Slices.{tracedOf}
+use Rattle.load_graph.specs.declared.Counts.{Counts}
+use Rattle.load.specs.code.File.{GateLine, GatesAhead, GatesPassed, OutputLine, OutputsAhead}
 use Rattle.netlist.proofs.LineLaws.{Line, line-ahead}
 use Rattle.netlist.specs.Check.{andsOf, gatesIn, outputsIn}
 use Rattle.netlist.specs.Meaning.{andCount}

@@ -1,8 +1,8 @@
 -- The parts of the table's words: their lengths, and that they are those of the graph.
 use Prim.Native.Nat.{_*_, _+_, _-_, _≤_, ℕ}
-use Rattle.loader.specs.Build.{PairBuilt}
-use Rattle.loader.specs.Load.{tableWords}
-use Rattle.load.specs.Pair.{TableRoom, wordsOf}
+use Rattle.load_model.specs.Build.{PairBuilt}
+use Rattle.load_model.specs.Load.{tableWords}
+use Rattle.load.specs.code.Pair.{TableRoom, wordsOf}
 use Rattle.table.specs.Limits.{maxOutputs}
 use Rattle.text.proofs.DecimalLaws.{written-length}
 use Rattle.text.specs.Decimal.{written}

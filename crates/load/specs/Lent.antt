@@ -1,6 +1,6 @@
 -- The slices that load is lent: their lengths, and what a refusal leaves in them.
 use Prim.Native.Nat.{ℕ}
-use Rattle.loader.specs.Load.{Answer, Room, accepted, refused}
+use Rattle.load_model.specs.Load.{Answer, Room, accepted, refused}
 use mathlib.Core.List.{List}
 use mathlib.Core.Path.{_≡_}
 

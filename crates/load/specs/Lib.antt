@@ -1,4 +1,2 @@
-pub mod Decision
-pub mod File
 pub mod Lent
-pub mod Pair
+pub mod code

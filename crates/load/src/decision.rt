@@ -2,8 +2,8 @@
 use netlist::check;
 use netlist::check::Checked;
 use netlist::check::Summary;
-ghost use Rattle.loader.specs.Load.{shortSlice?};
-ghost use Rattle.load.specs.Decision.{decision, pairDecision, readDecision};
+ghost use Rattle.load_model.specs.Load.{shortSlice?};
+ghost use Rattle.load.specs.code.Decision.{decision, pairDecision, readDecision};
 ghost use Rattle.load.specs.Lent.{roomOf};
 ghost use mathlib.Core.Path.{_≡_};
 
@@ -102,14 +102,14 @@ fn decide_pair(
 fn is_short(pairs: usize, look: usize, literals: usize, outputs: usize) -> bool
     ensures { λ r. ⌜ r ≡ shortSlice? (roomOf 0 pairs look literals outputs) ⌝ }
 {
-    if pairs < 2 * loader_graph::MAX_VERTICES {
+    if pairs < 2 * load_graph::MAX_VERTICES {
         return true;
     }
-    if look < 2 * loader_graph::MAX_VERTICES {
+    if look < 2 * load_graph::MAX_VERTICES {
         return true;
     }
-    if literals < 2 * loader_graph::MAX_VERTICES {
+    if literals < 2 * load_graph::MAX_VERTICES {
         return true;
     }
-    outputs < 2 * loader_graph::MAX_VERTICES
+    outputs < 2 * load_graph::MAX_VERTICES
 }

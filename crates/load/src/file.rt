@@ -1,16 +1,16 @@
 // One file into the graph: its gates asked for, its outputs as literals of the graph.
 use aig::literal::Literal;
-use loader_graph::Counts;
+use load_graph::Counts;
 use netlist::check::Summary;
 use netlist::lines;
 use netlist::records::Record;
 ghost use Prim.Native.Nat.{_*_, _+_, _<_, _≤_};
 ghost use Rattle.aig.specs.Literal.{lit, vertexOf};
-ghost use Rattle.loader.specs.Build.{askGates, buildFile, literalFor, literalsFrom};
-ghost use Rattle.loader.specs.Load.{maxVertices};
-ghost use Rattle.loader_graph.specs.Slices.{Graph, buildOf, tracedOf};
-ghost use Rattle.load.specs.File.{GateLine, GatesAhead, GatesPassed, OutputLine, OutputsAhead, netlistOf};
-ghost use Rattle.netlist.specs.Accepted.{Holds};
+ghost use Rattle.load_model.specs.Build.{askGates, buildFile, literalFor, literalsFrom};
+ghost use Rattle.load_model.specs.Load.{maxVertices};
+ghost use Rattle.load_graph.specs.code.Slices.{Graph, buildOf, tracedOf};
+ghost use Rattle.load.specs.code.File.{GateLine, GatesAhead, GatesPassed, OutputLine, OutputsAhead, netlistOf};
+ghost use Rattle.netlist.specs.code.Accepted.{Holds};
 ghost use Rattle.netlist.specs.Check.{gatesIn, outputsIn};
 ghost use Rattle.netlist.specs.Records.{fileRecords, recordOf};
 ghost use Rattle.table.specs.Limits.{maxAnds, maxInputs, maxOutputs};
@@ -163,7 +163,7 @@ fn ask_line(
     };
     let p = literal_for(&literals[..], p);
     let q = literal_for(&literals[..], q);
-    let asked = loader_graph::ask_gate(pairs, look, counts, op, p, q);
+    let asked = load_graph::ask_gate(pairs, look, counts, op, p, q);
     literals[vertex] = asked.literal.0;
     asked.counts
 }

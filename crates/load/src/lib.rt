@@ -1,7 +1,7 @@
 // Loading: two drawing files into one table.
 use crate::decision::Decision;
-use loader::Loaded;
-ghost use Rattle.loader.specs.Load.{answerOf, loadResult, tableAfter};
+use load_model::Loaded;
+ghost use Rattle.load_model.specs.Load.{answerOf, loadResult, tableAfter};
 ghost use Rattle.load.specs.Lent.{Kept, roomOf, working};
 ghost use Rattle.netlist.specs.Check.{readNetlist};
 ghost use lib.ListN.{length};

@@ -1,14 +1,14 @@
 // Both files loaded: the graph, and then the table.
 use crate::file;
 use crate::layout;
-use loader::Tally;
-use loader_graph::Counts;
+use load_graph::Counts;
+use load_model::Tally;
 use netlist::check::Summary;
 ghost use Prim.Native.Nat.{_≤_};
-ghost use Rattle.loader.specs.Load.{maxTable, tableOf, tallyOf};
-ghost use Rattle.loader_graph.specs.Slices.{buildOf};
-ghost use Rattle.load.specs.File.{netlistOf};
-ghost use Rattle.load.specs.Pair.{Agreed, Enough, pairOf};
+ghost use Rattle.load_model.specs.Load.{maxTable, tableOf, tallyOf};
+ghost use Rattle.load_graph.specs.code.Slices.{buildOf};
+ghost use Rattle.load.specs.code.File.{netlistOf};
+ghost use Rattle.load.specs.code.Pair.{Agreed, Enough, pairOf};
 ghost use Rattle.table.specs.Limits.{maxOutputs};
 ghost use Rattle.text.specs.Decimal.{written};
 ghost use lib.ListN.{length};
@@ -67,7 +67,7 @@ fn build_pair(
     ensures result { λ r. ⌜ buildOf (now (pairs .exit)) r ≡ pairOf (now (left .entry)) (now (right .entry)) one two .build ⌝ }
     ensures outputs { λ _. ⌜ now (outputs .exit) ≡ written (written (now (outputs .entry)) 0 (pairOf (now (left .entry)) (now (right .entry)) one two .left)) maxOutputs (pairOf (now (left .entry)) (now (right .entry)) one two .right) ⌝ }
 {
-    let counts = loader_graph::start(pairs, look, one.inputs);
+    let counts = load_graph::start(pairs, look, one.inputs);
     let counts = file::load_file(left, one, pairs, look, literals, outputs, 0, counts);
     file::load_file(
         right,

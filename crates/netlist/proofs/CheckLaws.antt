@@ -1,7 +1,7 @@
 -- The check of records: a netlist within its limits is accepted, and what is accepted is the records of such a netlist.
 use Prim.Native.Nat.{_*_, _+_, _<_, suc, ℕ}
 use Rattle.netlist.proofs.StepLaws.{GateFits, Limited, OutputDue, andThen, check-next, check-refused, check-step, finish-all, finish-cases, gate-cases, gate-first, gate-next, header-again, header-cases, header-next, malformed-refused, output-cases, output-first, output-next}
-use Rattle.netlist.specs.Accepted.{countsIn}
+use Rattle.netlist.specs.code.Accepted.{countsIn}
 use Rattle.netlist.specs.Check.{Answer, Counts, accepted, andsOf, body, checkFrom, finish, more?, refused}
 use Rattle.netlist.specs.Limits.{edition}
 use Rattle.netlist.specs.Meaning.{andCount}

@@ -1,6 +1,6 @@
 -- The lines of a file, one after the other.
 use Prim.Native.Nat.{_+_, _-_, _<_, _≤_, ℕ}
-use Rattle.netlist.specs.Passing.{lineRecord}
+use Rattle.netlist.specs.code.Passing.{lineRecord}
 use Rattle.netlist.specs.Records.{fileRecords, recordOf, recordsOf, unended}
 use Rattle.netlist.specs.declared.records.Record.the-variants.{Malformed}
 use Rattle.netlist.specs.declared.records.Record.{Record}

@@ -4,7 +4,7 @@ use Rattle.netlist.proofs.LineLaws.{formed-ended, records-ahead, record
 use Rattle.netlist.proofs.StepLaws.{andThen, ands-few, check-step, gate-cases, gate-first, header-again, header-cases, malformed-refused, output-cases, output-first}
 use Rattle.netlist.specs.Check.{checkFile, checkFrom, finish, refused}
 use Rattle.netlist.specs.Limits.{maxGates}
-use Rattle.netlist.specs.Passing.{Counted, Held, at-first, at-later, lineDue, lineRecord, stepOf}
+use Rattle.netlist.specs.code.Passing.{Counted, Held, at-first, at-later, lineDue, lineRecord, stepOf}
 use Rattle.netlist.specs.Records.{fileRecords}
 use Rattle.netlist.specs.declared.check.Body.{Body}
 use Rattle.netlist.specs.declared.check.Due.the-variants.{First, Later}

@@ -3,7 +3,7 @@ use Prim.Native.Nat.{_+_, ℕ}
 use Rattle.netlist.proofs.CheckLaws.{Taken, records-accepted, taken}
 use Rattle.netlist.proofs.FileLaws.{bytes-read, file-written, within-spelled}
 use Rattle.netlist.proofs.LineLaws.{line-ahead}
-use Rattle.netlist.specs.Accepted.{Holds, countsIn, summaryOf}
+use Rattle.netlist.specs.code.Accepted.{Holds, countsIn, summaryOf}
 use Rattle.netlist.specs.Check.{Answer, Counts, accepted, answerOf, body, checkFile, gatesIn, netlistIn, outputsIn, read, readBy, readNetlist, refused, unread}
 use Rattle.netlist.specs.Netlist as netlist
 use Rattle.netlist.specs.Netlist.{Netlist, Within, bodyRecords, bytesOf, gateRecord, headerRecord, linesBytes, netlistRecords}

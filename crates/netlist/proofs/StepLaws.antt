@@ -2,7 +2,7 @@
 use Prim.Native.Nat.{_*_, _+_, _<_, _≤_, ℕ}
 use Rattle.netlist.specs.Check.{Answer, accepted, andsOf, below?, body, checkFrom, countsOf, due?, dueAfter, finish, formed?, header?, known?, limited?, lineTests, more?, refused}
 use Rattle.netlist.specs.Limits.{edition, maxGates}
-use Rattle.netlist.specs.Passing.{stepOf}
+use Rattle.netlist.specs.code.Passing.{stepOf}
 use Rattle.netlist.specs.declared.check.Body.{Body}
 use Rattle.netlist.specs.declared.check.Due.the-variants.{First, Later}
 use Rattle.netlist.specs.declared.check.Due.{Due}

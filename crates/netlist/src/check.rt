@@ -5,7 +5,7 @@ use crate::records::Operation;
 use crate::records::Record;
 ghost use Prim.Native.Nat.{_+_, _<_};
 ghost use Rattle.netlist.specs.Check.{andsOf, answerOf, checkFile, finish};
-ghost use Rattle.netlist.specs.Passing.{Counted, Held, StartsAt, lineRecord, stepOf};
+ghost use Rattle.netlist.specs.code.Passing.{Counted, Held, StartsAt, lineRecord, stepOf};
 ghost use Rattle.text.specs.Split.{upTo};
 ghost use lib.ListN.{drop, length};
 ghost use mathlib.Core.Path.{_≡_};

@@ -4,12 +4,12 @@ use Rattle.bdd.proofs.ChainLaws.{kept-then}
 use Rattle.bdd.proofs.DiagramLaws.{denote-perfect}
 use Rattle.bdd.proofs.StoreLaws.{part-stored, store-apart, store-frame, store-length}
 use Rattle.bdd.specs.Diagram.{Canonical, Reference, denote, storeOf}
-use Rattle.bdd.specs.Store.{Kept}
-use Rattle.bdd.specs.Unique.{GivenBack, Grown}
+use Rattle.bdd.specs.code.Store.{Kept}
+use Rattle.bdd.specs.code.Unique.{GivenBack, Grown}
 use Rattle.product_model.proofs.Ran as ran
 use Rattle.product_model.proofs.Run.{run-done, run-rows, run-steps}
 use Rattle.product_model.proofs.Store.{done-members, done-rows}
-use Rattle.product_model.specs.Books.{Proper, Stored}
+use Rattle.product_model.specs.code.Books.{Proper, Stored}
 use Rattle.product.specs.Product.{Ask, Multiplied, Multiplies, bookOf}
 use Rattle.product.specs.declared.Product.the-variants.{Done, ShortOfRows, ShortOfSteps}
 use Rattle.product.specs.declared.Product.{Product}

@@ -4,8 +4,8 @@ use Rattle.bdd.proofs.DiagramLaws.{reference-more}
 use Rattle.bdd.proofs.MakeLaws.{MakeAsked, grown-denote, grown-reference, grown-then, stays}
 use Rattle.bdd.proofs.SplitLaws.{SplitAt, split-at}
 use Rattle.bdd.specs.Diagram.{denote}
-use Rattle.bdd.specs.Split.{EndsAt, GoesOn, Halved}
-use Rattle.bdd.specs.Unique.{MadeAt, MadeFull}
+use Rattle.bdd.specs.code.Split.{EndsAt, GoesOn, Halved}
+use Rattle.bdd.specs.code.Unique.{MadeAt, MadeFull}
 use Rattle.bdd.specs.declared.references.Halves.{Halves}
 use Rattle.product_model.proofs.Cases.{count-room}
 use Rattle.product_model.proofs.Equations.{run-both, run-terminal}

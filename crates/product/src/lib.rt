@@ -3,8 +3,8 @@ use bdd::references::Ending;
 use bdd::unique::Made;
 ghost use Prim.Native.Nat.{_-_, _<_, _≤_};
 ghost use Rattle.bdd.specs.Diagram.{Reference};
-ghost use Rattle.bdd.specs.Rows.{MARK};
-ghost use Rattle.bdd.specs.Store.{Store};
+ghost use Rattle.bdd.specs.code.Rows.{MARK};
+ghost use Rattle.bdd.specs.code.Store.{Store};
 ghost use Rattle.product.specs.Product.{AddsRow, Ask, Multiplies};
 
 // How a product ended: its reference, or a limit that it passed; with the rows then used and the steps taken.

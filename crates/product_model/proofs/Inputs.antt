@@ -2,7 +2,7 @@
 use Prim.Native.Nat.{_-_, _<_, suc, zero, ℕ}
 use Rattle.product_model.proofs.Conjunction.{parts-skip}
 use Rattle.product_model.proofs.Ran.{Ran, add-ran, ran-as}
-use Rattle.product_model.specs.Books.{Proper}
+use Rattle.product_model.specs.code.Books.{Proper}
 use Rattle.product_model.specs.Run.{Book, addPart}
 use Rattle.truth.proofs.Parts.{constants-differ, parts-constant, parts-node}
 use Rattle.truth.specs.Distinct.{among}

@@ -1,7 +1,7 @@
 -- The laws of adding a part by itself.
 use Prim.Native.Nat.{_≤_, ℕ}
 use Rattle.product_model.proofs.Ran.{Done, ShortOfRows, add-ran, enough, is-done, is-short-of-rows, is-short-of-steps}
-use Rattle.product_model.specs.Books.{Proper}
+use Rattle.product_model.specs.code.Books.{Proper}
 use Rattle.product_model.specs.Run.{Book, addPart, done, shortOfRows, shortOfSteps}
 use Rattle.truth.specs.Distinct.{distinct}
 use Rattle.truth.specs.Parts.{alike?}

@@ -4,7 +4,7 @@ use Rattle.product_model.proofs.Cases.{Adding, Counting, add-cases, cou
 use Rattle.product_model.proofs.Conjunction.{parts-made, parts-passed, terminal-leaves, terminal-stored}
 use Rattle.product_model.proofs.Members.{within-append, within-left, within-none, within-one, within-right}
 use Rattle.product_model.proofs.Plain.{alike-plain, plain-false, plain-self}
-use Rattle.product_model.specs.Books.{Proper, Stored}
+use Rattle.product_model.specs.code.Books.{Proper, Stored}
 use Rattle.product_model.specs.Run.{Book, Outcome, _andThen_, addPart, addRow, countStep, done, plain, run, shortOfRows, shortOfSteps, withStep}
 use Rattle.truth.proofs.Booleans.{or-left}
 use Rattle.truth.proofs.Distinct.{Within, among-congruent, apart-distinct, distinct-within}

@@ -1,7 +1,7 @@
 -- The laws of a run of two functions that have their rows, from a book within its limits.
 use Prim.Native.Nat.{_+_, _≤_, ℕ}
 use Rattle.product_model.proofs.Ran.{Done, ShortOfRows, ShortOfSteps, enough, is-done, is-short-of-rows, is-short-of-steps, run-ran}
-use Rattle.product_model.specs.Books.{Proper, Stored}
+use Rattle.product_model.specs.code.Books.{Proper, Stored}
 use Rattle.product_model.specs.Run.{Book, done, run, shortOfRows, shortOfSteps}
 use Rattle.truth.specs.Distinct.{distinct}
 use Rattle.truth.specs.Parts.{alike?, parts}

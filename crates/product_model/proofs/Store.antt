@@ -2,7 +2,7 @@
 use Prim.Native.Nat.{_<_, ℕ}
 use Rattle.product_model.proofs.Members.{apart-none, within-append}
 use Rattle.product_model.proofs.Ran.{Done, Grown, ShortOfRows, grown-from, kept}
-use Rattle.product_model.specs.Books.{Holds, Proper}
+use Rattle.product_model.specs.code.Books.{Holds, Proper}
 use Rattle.product_model.specs.Run.{Book}
 use Rattle.truth.proofs.Booleans.{iff-equal}
 use Rattle.truth.proofs.Distinct.{Within, among-append, apart-distinct, distinct-same}

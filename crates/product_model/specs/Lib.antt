@@ -1,3 +1,3 @@
 pub mod Run
 pub mod Cards
-pub mod Books
+pub mod code

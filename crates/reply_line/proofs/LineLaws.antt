@@ -2,7 +2,7 @@
 use Prim.Native.Nat.{ℕ}
 use Rattle.compare_model.specs.Said.{undecidedBy}
 use Rattle.netlist.specs.Limits.{edition}
-use Rattle.reply_line.specs.Cause.{causeVertex, causeWord}
+use Rattle.reply_line.specs.code.Cause.{causeVertex, causeWord}
 use Rattle.reply_line.specs.Line.{lineFor, roomFor}
 use Rattle.report.specs.Report.{LINE-ROOM, replyLine}
 use Rattle.sweep_model.specs.declared.Cause.the-variants.{Idle, Rows, Size, Steps}

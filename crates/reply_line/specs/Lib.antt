@@ -1,2 +1,2 @@
-pub mod Cause
 pub mod Line
+pub mod code

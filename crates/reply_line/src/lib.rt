@@ -4,7 +4,7 @@ use report::Word;
 use sweep_model::Cause;
 use sweep_model::Reply;
 ghost use Rattle.compare_model.specs.Said.{saidOf};
-ghost use Rattle.reply_line.specs.Cause.{causeVertex, causeWord};
+ghost use Rattle.reply_line.specs.code.Cause.{causeVertex, causeWord};
 ghost use Rattle.reply_line.specs.Line.{lineFor, roomFor};
 ghost use Rattle.report.specs.Report.{Printed};
 ghost use mathlib.Core.Path.{_≡_};

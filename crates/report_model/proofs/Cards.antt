@@ -2,9 +2,9 @@
 use Rattle.aig.specs.Fold.{foldOf}
 use Rattle.aig.specs.Lookup.{firstVertex, ownWords}
 use Rattle.compare_model.specs.Compare.{answerTo, answered, beyond?, compared, graphWords, outputsLeft, outside?, problemOf, refusalOf, saidBy, settingBytes, settingLeft, shortSlice?, tableLeft, turnedBack}
-use Rattle.loader.specs.Build.{askAnd, askGate, askGates, askXor, buildFile, buildPair, emptyBuild, foldedOrNot, foundOrMade, literalsFrom}
-use Rattle.loader.specs.Load.{countsDiffer?, loadResult, readResult, tableAfter, tableOf, tableWords, tallyOf}
-use Rattle.loader.specs.Load.{shortSlice? as shortLoad?}
+use Rattle.load_model.specs.Build.{askAnd, askGate, askGates, askXor, buildFile, buildPair, emptyBuild, foldedOrNot, foundOrMade, literalsFrom}
+use Rattle.load_model.specs.Load.{countsDiffer?, loadResult, readResult, tableAfter, tableOf, tableWords, tallyOf}
+use Rattle.load_model.specs.Load.{shortSlice? as shortLoad?}
 use Rattle.netlist.specs.Check.{below?, checkFile, checkFrom, due?, dueAfter, finish, formed?, gatesIn, header?, known?, limited?, more?, outputsIn, readBy, readNetlist}
 use Rattle.netlist.specs.Meaning.{andCount}
 use Rattle.netlist.specs.Records.{fieldsRecord, fileRecords, operationOf, recordOf, recordsOf, unended}

@@ -1,9 +1,9 @@
 -- The report by cases: slices that are too short, a refused load, an accepted one.
 use Prim.Native.Nat.{_*_, _≤_, ℕ}
-use Rattle.loader.proofs.LoadLaws.{load-only, load-table}
-use Rattle.loader.proofs.TableLaws.{table-accepted}
-use Rattle.loader.specs.Load.{Answer, Room, accepted, loadResult, maxVertices, tableAfter}
-use Rattle.loader.specs.declared.Tally.{Tally}
+use Rattle.load_model.proofs.LoadLaws.{load-only, load-table}
+use Rattle.load_model.proofs.TableLaws.{table-accepted}
+use Rattle.load_model.specs.Load.{Answer, Room, accepted, loadResult, maxVertices, tableAfter}
+use Rattle.load_model.specs.declared.Tally.{Tally}
 use Rattle.netlist.specs.Check.{readNetlist}
 use Rattle.report_model.specs.Report.{Lent, firstOf, loadRoom, reportOf, reportRoom, reported, rowLimit, short?, shortRoom?, untouched, works?}
 use Rattle.table.proofs.RefusalLaws.{neither}

@@ -5,7 +5,7 @@ use Rattle.compare_model.proofs.GraphLaws.{count-vertices}
 use Rattle.compare_model.proofs.RefusalLaws.{compared-answered, passed}
 use Rattle.compare_model.proofs.Since.{given-fits, given-steady, since-compared, since-loaded}
 use Rattle.compare_model.specs.Compare.{Given, answerTo, answered, overFront, problemOf, refusalOf, settingBytes, settingLeft}
-use Rattle.loader.specs.Load.{maxVertices}
+use Rattle.load_model.specs.Load.{maxVertices}
 use Rattle.report_model.specs.Report.{next, programLimits, rowLimit}
 use Rattle.sweep_model.proofs.Right.{different-right}
 use Rattle.sweep_model.specs.Sweep.{Verdict, different, equal, undecided}

@@ -1,7 +1,7 @@
 -- Reports computed from the bytes of the files.
 use Prim.Native.Nat.{_*_, ℕ}
-use Rattle.loader.specs.Cards.{andFile, withOneGate}
-use Rattle.loader.specs.Load.{maxTable, maxVertices}
+use Rattle.load_model.specs.Cards.{andFile, withOneGate}
+use Rattle.load_model.specs.Load.{maxTable, maxVertices}
 use Rattle.netlist.specs.Limits.{edition}
 use Rattle.report.specs.Report.{headLine, refusedLine, replyLine}
 use Rattle.report.specs.declared.fields.Vertex.the-variants.{None}

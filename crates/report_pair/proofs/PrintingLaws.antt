@@ -5,7 +5,7 @@ use Rattle.report.proofs.StoredLaws.{room-next, stored-next, stored-none}
 use Rattle.report.specs.Report.{StoredWithin}
 use Rattle.report_model.proofs.ComparisonLaws.{lines-more, since-after}
 use Rattle.report_model.specs.Report.{after, comparisonLine, comparisons, linesOf, next, replyRoom}
-use Rattle.report_pair.specs.Slices.{Ready}
+use Rattle.report_pair.specs.code.Slices.{Ready}
 use Rattle.table.specs.Accepted.{Accepted}
 use Rattle.text.proofs.DecimalLaws.{stored-length}
 use lib.ListN.{length}

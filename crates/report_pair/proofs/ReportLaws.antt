@@ -1,16 +1,16 @@
 -- What the call gives back and leaves is the report.
 use Prim.Native.Nat.{_*_, _+_, _≤_, ℕ}
 use Rattle.compare_model.specs.Compare.{Given, overFront}
-use Rattle.compare_parts.specs.Code.{Unchanged}
+use Rattle.compare_parts.specs.code.Code.{Unchanged}
 use Rattle.load.specs.Lent.{Kept, Working}
-use Rattle.loader.specs.Load.{Answer, Room as LoadRoom, accepted, loadResult, refused, tableAfter}
-use Rattle.loader.specs.declared.Tally.{Tally}
+use Rattle.load_model.specs.Load.{Answer, Room as LoadRoom, accepted, loadResult, refused, tableAfter}
+use Rattle.load_model.specs.declared.Tally.{Tally}
 use Rattle.netlist.specs.Check.{readNetlist}
 use Rattle.report.proofs.StoredLaws.{stored-next}
 use Rattle.report.specs.Report.{LINE-ROOM, Printed, StoredWithin, headLine, lineLength, linePut, refusedLine}
 use Rattle.report_model.proofs.ReportLaws.{loaded-accepted, report-loaded}
 use Rattle.report_model.specs.Report.{Lent, after, comparisons, firstOf, linesOf, loadRoom, replyRoom, reportOf, reportRoom, reported, short?}
-use Rattle.report_pair.specs.Slices.{Front, Ready, reportLeft}
+use Rattle.report_pair.specs.code.Slices.{Front, Ready, reportLeft}
 use Rattle.table.specs.Limits.{maxInputs, maxOutputs}
 use Rattle.table.specs.Table.{outputsOf}
 use Rattle.text.specs.Decimal.{Stored, written}

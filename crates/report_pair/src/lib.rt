@@ -2,12 +2,12 @@
 mod lines;
 
 use crate::lines::report_table;
-use loader::Loaded;
+use load_model::Loaded;
 use report_model::REPORT_ROOM;
 use report_model::ROWS_ROOM;
-ghost use Rattle.compare_parts.specs.Code.{Unchanged};
+ghost use Rattle.compare_parts.specs.code.Code.{Unchanged};
 ghost use Rattle.report_model.specs.Report.{reportOf, shortRoom?, works?};
-ghost use Rattle.report_pair.specs.Slices.{Front, lent, reportLeft};
+ghost use Rattle.report_pair.specs.code.Slices.{Front, lent, reportLeft};
 ghost use mathlib.Core.Bool.{false};
 ghost use mathlib.Core.Path.{_≡_};
 
@@ -60,7 +60,7 @@ fn is_short(out: usize, rows: usize, marks: usize, setting: usize) -> bool
     if rows < ROWS_ROOM {
         return true;
     }
-    if marks < loader_graph::MAX_VERTICES {
+    if marks < load_graph::MAX_VERTICES {
         return true;
     }
     setting < table::MAX_INPUTS as usize

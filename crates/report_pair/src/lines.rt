@@ -8,7 +8,7 @@ ghost use Prim.Native.Nat.{_*_, _+_, _≤_};
 ghost use Rattle.compare_model.specs.Said.{saidOf};
 ghost use Rattle.report.specs.Report.{LINE-ROOM, StoredWithin, headLine};
 ghost use Rattle.report_model.specs.Report.{after, comparisonLine, comparisons, linesOf, next, replyRoom, reportRoom};
-ghost use Rattle.report_pair.specs.Slices.{Ready, asked};
+ghost use Rattle.report_pair.specs.code.Slices.{Ready, asked};
 ghost use Rattle.reply_line.specs.Line.{lineFor};
 ghost use Rattle.table.specs.Table.{outputsOf};
 ghost use lib.ListN.{length, take};

@@ -2,20 +2,20 @@
 use Prim.Native.Nat.{ℕ}
 use Rattle.sweep_model.specs.Sweep.{Progress, andThen, answerOf, cause, go, sweep}
 use Rattle.sweep_model.specs.declared.Cause.{Cause}
-use Rattle.sweep_parts.specs.Cause.{causeBy}
-use Rattle.sweep_parts.specs.Ending.{verdictOf}
-use Rattle.sweep_parts.specs.Meet.{Board}
-use Rattle.sweep_parts.specs.Words.{posed}
+use Rattle.sweep_parts.specs.code.Cause.{causeBy}
+use Rattle.sweep_parts.specs.code.Ending.{verdictOf}
+use Rattle.sweep_parts.specs.code.Meet.{Board}
+use Rattle.sweep_parts.specs.code.Words.{posed}
 use Rattle.sweep_parts.specs.declared.end.End.the-variants.{Undecided}
 use Rattle.sweep_parts.specs.declared.end.End.{End}
 use Rattle.sweep_parts.specs.declared.end.Ended as result
 use Rattle.sweep_parts.specs.declared.task.Task.{Task}
-use Rattle.sweep_start.specs.Start.{Starts, SweepAsked}
+use Rattle.sweep_start.specs.code.Start.{Starts, SweepAsked}
 use Rattle.sweep_turn.proofs.EndModel.{represents-closed}
-use Rattle.sweep_turn.specs.Turn.{Goes, RestIn, firstScene}
+use Rattle.sweep_turn.specs.code.Turn.{Goes, RestIn, firstScene}
 use Rattle.sweep_turn.specs.declared.visit.Going.the-variants.{Ended, On}
 use Rattle.sweep_turn.specs.declared.visit.Going.{Going}
-use Rattle.sweep.specs.Sweep.{Rests, Sweeps}
+use Rattle.sweep.specs.code.Sweep.{Rests, Sweeps}
 use mathlib.Core.List.{List}
 use mathlib.Core.Path.{_∙_, _≡_, ap, subst}
 

@@ -7,11 +7,11 @@ use sweep_start::start::start;
 use sweep_turn::turn::go;
 use sweep_turn::visit::Going;
 ghost use Prim.Native.Nat.{_*_, _≤_};
-ghost use Rattle.sweep_parts.specs.Meet.{board};
-ghost use Rattle.sweep_parts.specs.Sheets.{sheets};
-ghost use Rattle.sweep_start.specs.Start.{SweepAsked};
-ghost use Rattle.sweep_turn.specs.Turn.{RestIn};
-ghost use Rattle.sweep.specs.Sweep.{Rests, Sweeps};
+ghost use Rattle.sweep_parts.specs.code.Meet.{board};
+ghost use Rattle.sweep_parts.specs.code.Sheets.{sheets};
+ghost use Rattle.sweep_start.specs.code.Start.{SweepAsked};
+ghost use Rattle.sweep_turn.specs.code.Turn.{RestIn};
+ghost use Rattle.sweep.specs.code.Sweep.{Rests, Sweeps};
 ghost use lib.ListN.{length};
 
 // The turns, and where they come to rest the cause.

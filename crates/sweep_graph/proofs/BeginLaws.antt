@@ -1,11 +1,11 @@
 -- The words that a sweep begins with are the model's beginning.
 use Prim.Native.Nat.{ℕ, _*_, _<_, _≤_}
 use Rattle.aig.specs.Lookup.{cleared}
-use Rattle.bdd.specs.Rows.{RADIX}
+use Rattle.bdd.specs.code.Rows.{RADIX}
 use Rattle.sweep_graph.proofs.StageLaws.{stage-at, stage-word, stages-length, stages-set}
-use Rattle.sweep_graph.specs.Begin.{begun}
-use Rattle.sweep_graph.specs.Stages.{stageWord, stagesOf, wordStage}
-use Rattle.sweep_graph.specs.Takes.{Room, held}
+use Rattle.sweep_graph.specs.code.Begin.{begun}
+use Rattle.sweep_graph.specs.code.Stages.{stageWord, stagesOf, wordStage}
+use Rattle.sweep_graph.specs.code.Takes.{Room, held}
 use Rattle.sweep_model.specs.State.{Problem, Stage, bare, gone, opened, stageOf}
 use Rattle.sweep_model.specs.Sweep.{begin}
 use lib.ListN.{List·getD-append, drop, getD, getD-replicate, length, length-append, length-drop, length-replicate, length-set, replicate, set, take}

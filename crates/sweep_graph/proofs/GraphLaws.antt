@@ -1,6 +1,6 @@
 -- Merging and normalising keep a working graph what it is.
 use Prim.Native.Nat.{ℕ, _*_, _-_, _<_, _≤_}
-use Rattle.sweep_graph.specs.Graph.{Graph}
+use Rattle.sweep_graph.specs.code.Graph.{Graph}
 use Rattle.sweep_model.proofs.Rows.{row-downward}
 use Rattle.sweep_model.proofs.Settle.{renewed}
 use Rattle.sweep_model.specs.Fit.{Downward}

@@ -9,7 +9,7 @@ use Rattle.aig.specs.declared.fold.Folded.the-variants.{Pair}
 use Rattle.aig.specs.declared.fold.Folded.{Folded}
 use Rattle.aig.specs.declared.literal.Literal.{Literal}
 use Rattle.aig.specs.declared.lookup.Found.the-variants.{At, Nothing}
-use Rattle.sweep_graph.specs.Graph.{Graph, Turn}
+use Rattle.sweep_graph.specs.code.Graph.{Graph, Turn}
 use Rattle.sweep_model.proofs.Rows.{resolve-merged, resolve-stays}
 use Rattle.sweep_model.proofs.Settle.{normalised, tidy-first}
 use Rattle.sweep_model.specs.Fit.{Downward}

@@ -1,8 +1,8 @@
 -- What is picked, and that it is the model's pick.
 use Prim.Native.Nat.{ℕ, _+_, _-_, _<_, _≤_, suc, zero}
 use Rattle.aig.specs.Lookup.{firstWord, secondWord}
-use Rattle.sweep_graph.specs.Pick.{leastFrom, lesser, pickHere, twinOf}
-use Rattle.sweep_graph.specs.Stages.{stagesFrom, stagesOf, wordStage}
+use Rattle.sweep_graph.specs.code.Pick.{leastFrom, lesser, pickHere, twinOf}
+use Rattle.sweep_graph.specs.code.Stages.{stagesFrom, stagesOf, wordStage}
 use Rattle.sweep_graph.specs.declared.pick.Picked.the-variants.{At, None}
 use Rattle.sweep_graph.specs.declared.pick.Picked.{Picked}
 use Rattle.sweep_model.specs.State.{Problem, functionOf, waits?}

@@ -1,7 +1,7 @@
 -- Words of stages, one and many.
 use Prim.Native.Nat.{ℕ, _*_, _+_, _<_, _≤_, suc, zero}
 use Rattle.aig.specs.Lookup.{firstWord}
-use Rattle.sweep_graph.specs.Stages.{stageWord, stagesFrom, stagesOf, withStage, wordStage}
+use Rattle.sweep_graph.specs.code.Stages.{stageWord, stagesFrom, stagesOf, withStage, wordStage}
 use Rattle.sweep_model.specs.Normalise.{wake}
 use Rattle.sweep_model.specs.State.{Stage, again, bare, bare?, dropped, dropped?, gone, gone?, has?, open?, opened, stageOf, waiting, waits?}
 use Rattle.truth.proofs.Booleans.{clash}

@@ -5,11 +5,11 @@ use Rattle.aig.specs.Literal.{vertexOf}
 use Rattle.aig.specs.Lookup.{firstWord, secondWord, withRow}
 use Rattle.bdd.proofs.RowsLaws.{length-put}
 use Rattle.bdd.specs.Diagram.{edge}
-use Rattle.bdd.specs.Owners.{withOwner}
-use Rattle.bdd.specs.Rows.{RADIX, highAt}
-use Rattle.sweep_graph.specs.Graph.{Graph}
-use Rattle.sweep_graph.specs.Stages.{stageWord, withStage, wordStage}
-use Rattle.sweep_graph.specs.Takes.{Handing, Held, Room, handedOver, hasWord, held, leave, takeWords, takenDiagrams, takesWords, wakeWords}
+use Rattle.bdd.specs.code.Owners.{withOwner}
+use Rattle.bdd.specs.code.Rows.{RADIX, highAt}
+use Rattle.sweep_graph.specs.code.Graph.{Graph}
+use Rattle.sweep_graph.specs.code.Stages.{stageWord, withStage, wordStage}
+use Rattle.sweep_graph.specs.code.Takes.{Handing, Held, Room, handedOver, hasWord, held, leave, takeWords, takenDiagrams, takesWords, wakeWords}
 use Rattle.sweep_model.proofs.Rows.{row-other}
 use Rattle.sweep_model.specs.Normalise.{merged?, wake}
 use Rattle.sweep_model.specs.State.{gone, gone?, has?}

@@ -5,9 +5,9 @@ use Rattle.aig.specs.Lookup.{firstWord}
 use Rattle.sweep_graph.proofs.GraphLaws.{graph-kept}
 use Rattle.sweep_graph.proofs.StageLaws.{stage-at, stage-word, stages-length, stages-set}
 use Rattle.sweep_graph.proofs.TakeLaws.{handed-room, take-room}
-use Rattle.sweep_graph.specs.Graph.{Graph}
-use Rattle.sweep_graph.specs.Stages.{stageWord, stagesOf, wordStage}
-use Rattle.sweep_graph.specs.Takes.{Held, Room, handedOver, hasWord, leave, takeWords, takesWords, wakeWords}
+use Rattle.sweep_graph.specs.code.Graph.{Graph}
+use Rattle.sweep_graph.specs.code.Stages.{stageWord, stagesOf, wordStage}
+use Rattle.sweep_graph.specs.code.Takes.{Held, Room, handedOver, hasWord, leave, takeWords, takesWords, wakeWords}
 use Rattle.sweep_model.specs.Normalise.{merged?, normalise, normaliseFrom, takeAt, takesFrom, wake, wakeAt}
 use Rattle.sweep_model.specs.State.{Stage, State, gone, gone?, has?, stageOf}
 use borrow.Author.Tests.{ne-eqb}

@@ -1,5 +1,1 @@
-pub mod Begin
-pub mod Graph
-pub mod Pick
-pub mod Stages
-pub mod Takes
+pub mod code

@@ -4,7 +4,7 @@ use crate::stage::set_stage;
 use aig::lookup::clear;
 ghost use Prim.Native.Nat.{_*_, _≤_};
 ghost use Rattle.aig.specs.Lookup.{cleared};
-ghost use Rattle.sweep_graph.specs.Begin.{begun};
+ghost use Rattle.sweep_graph.specs.code.Begin.{begun};
 ghost use lib.ListN.{length};
 ghost use mathlib.Core.Path.{_≡_};
 

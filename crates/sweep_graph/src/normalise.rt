@@ -12,7 +12,7 @@ use aig::lookup::find_vertex;
 ghost use Prim.Native.Nat.{_*_, _+_, _-_, _<_, _≤_};
 ghost use Rattle.aig.specs.Literal.{lit, vertexOf};
 ghost use Rattle.aig.specs.Lookup.{Indexed, firstVertex};
-ghost use Rattle.sweep_graph.specs.Graph.{Graph, Turn};
+ghost use Rattle.sweep_graph.specs.code.Graph.{Graph, Turn};
 ghost use Rattle.sweep_model.specs.Normalise.{foundRow, normaliseFrom, normaliseRow, resolve};
 ghost use lib.ListN.{length};
 ghost use mathlib.Core.Path.{_≡_};

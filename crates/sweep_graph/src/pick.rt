@@ -3,7 +3,7 @@ use crate::stage::waits;
 use crate::words::first_word;
 use crate::words::second_word;
 ghost use Prim.Native.Nat.{_*_, _+_, _<_, _≤_};
-ghost use Rattle.sweep_graph.specs.Pick.{Within, leastFrom, lesser, pickHere};
+ghost use Rattle.sweep_graph.specs.code.Pick.{Within, leastFrom, lesser, pickHere};
 ghost use lib.ListN.{length};
 ghost use mathlib.Core.Path.{_≡_};
 

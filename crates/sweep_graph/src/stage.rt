@@ -1,6 +1,6 @@
 // The stage of a vertex as a word: the first of its two.
 ghost use Prim.Native.Nat.{_*_, _<_};
-ghost use Rattle.sweep_graph.specs.Stages.{stageWord, withStage, wordStage};
+ghost use Rattle.sweep_graph.specs.code.Stages.{stageWord, withStage, wordStage};
 ghost use Rattle.sweep_model.specs.Normalise.{wake};
 ghost use Rattle.sweep_model.specs.State.{bare?, dropped?, gone?, has?, open?, waits?};
 ghost use lib.ListN.{length};

@@ -13,10 +13,10 @@ use bdd::rows::set_owner;
 ghost use Prim.Native.Nat.{_*_, _+_, _-_, _/_, _<_, _≤_};
 ghost use Rattle.aig.specs.Literal.{vertexOf};
 ghost use Rattle.aig.specs.Lookup.{firstWord};
-ghost use Rattle.bdd.specs.Owners.{withOwner};
-ghost use Rattle.bdd.specs.Rows.{RADIX};
-ghost use Rattle.sweep_graph.specs.Graph.{Graph};
-ghost use Rattle.sweep_graph.specs.Takes.{Handing, Room, handedOver, held, takeWords, takesWords, takenDiagrams, wakeWords};
+ghost use Rattle.bdd.specs.code.Owners.{withOwner};
+ghost use Rattle.bdd.specs.code.Rows.{RADIX};
+ghost use Rattle.sweep_graph.specs.code.Graph.{Graph};
+ghost use Rattle.sweep_graph.specs.code.Takes.{Handing, Room, handedOver, held, takeWords, takesWords, takenDiagrams, wakeWords};
 ghost use lib.ListN.{length};
 ghost use mathlib.Core.Path.{_≡_};
 

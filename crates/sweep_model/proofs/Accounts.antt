@@ -2,14 +2,14 @@
 use Prim.Native.Nat.{_+_, _<_, _≤_, suc, zero, ℕ}
 use Rattle.product_model.proofs.Ran.{Done}
 use Rattle.product_model.proofs.Store.{done-holds}
-use Rattle.product_model.specs.Books.{Holds}
+use Rattle.product_model.specs.code.Books.{Holds}
 use Rattle.product_model.specs.Run.{Book}
 use Rattle.sweep_model.proofs.Marked.{Inserted, andAt, ands-first, ands-put, marked-none, marked-put, marked-stays, parts-inserted, sum-inserted}
 use Rattle.sweep_model.proofs.Tidy.{first-unmerged}
 use Rattle.sweep_model.specs.Claims.{And, andSteps, andsOf, is, isEither, marked, stepsMarked, sum}
 use Rattle.sweep_model.specs.Fit.{vertexCount}
 use Rattle.sweep_model.specs.Normalise.{wasMerged?}
-use Rattle.sweep_model.specs.Reachable.{Accounted, MarkFits}
+use Rattle.sweep_model.specs.code.Reachable.{Accounted, MarkFits}
 use Rattle.sweep_model.specs.State.{Problem, functionOf}
 use Rattle.sweep_model.specs.Sweep.{givenBack}
 use Rattle.truth.specs.Distinct.{among, apart}

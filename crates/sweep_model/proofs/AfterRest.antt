@@ -16,7 +16,7 @@ use Rattle.sweep_model.proofs.Tidy.{equal-merged, made-merged}
 use Rattle.sweep_model.specs.Claims.{AfterIdle, AtRest, Excused, Made, Stuck, TookOne, by-first, by-merging, by-second, by-taking}
 use Rattle.sweep_model.specs.Fit.{Fit, vertexCount}
 use Rattle.sweep_model.specs.Normalise.{merged?, resolve}
-use Rattle.sweep_model.specs.Reachable.{Reachable}
+use Rattle.sweep_model.specs.code.Reachable.{Reachable}
 use Rattle.sweep_model.specs.State.{Problem, State, bare?, dropped?, functionOf, gone?, has?, stageOf}
 use Rattle.sweep_model.specs.Sweep.{sweep, undecided}
 use Rattle.sweep_model.specs.declared.Cause.the-variants.{Idle, Size}

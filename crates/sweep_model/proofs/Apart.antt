@@ -3,7 +3,7 @@ use Prim.Native.Nat.{_*_, _-_, _<_, max, min, suc, zero, ℕ}
 use Rattle.aig.proofs.LiteralLaws.{vertex-literal}
 use Rattle.aig.specs.Literal.{vertexOf}
 use Rattle.aig.specs.Lookup.{firstWord}
-use Rattle.product_model.specs.Books.{Stored}
+use Rattle.product_model.specs.code.Books.{Stored}
 use Rattle.product_model.specs.Run.{Book}
 use Rattle.sweep_model.proofs.Choices.{IsTwin, LowestTwin}
 use Rattle.sweep_model.proofs.Functions.{own-function}
@@ -16,9 +16,9 @@ use Rattle.sweep_model.proofs.Takes.{Fate, left-alone, target, woken}
 use Rattle.sweep_model.proofs.Tidy.{merged-agree, merged-equal, resolve-kept}
 use Rattle.sweep_model.specs.Fit.{Fit, Sound, WellFormed, vertexCount}
 use Rattle.sweep_model.specs.Normalise.{merged?, resolve, wasMerged?}
-use Rattle.sweep_model.specs.Reachable.{AllStored, Apart}
+use Rattle.sweep_model.specs.code.Reachable.{AllStored, Apart}
 use Rattle.sweep_model.specs.State.{Problem, Stage, State, functionOf, gone, has?, opened, stageOf, waiting, withBook}
-use Rattle.sweep_model.specs.Steady.{Due, Steady}
+use Rattle.sweep_model.specs.code.Steady.{Due, Steady}
 use Rattle.sweep_model.specs.Sweep.{at, meet}
 use Rattle.truth.proofs.Booleans.{not-true, or-cases}
 use Rattle.truth.proofs.Equality.{constant-equal, inverse-alike}

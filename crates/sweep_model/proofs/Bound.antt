@@ -7,7 +7,7 @@ use Rattle.sweep_model.proofs.Steady.{openedAt}
 use Rattle.sweep_model.proofs.Turns.{turns-set, waiting-turns}
 use Rattle.sweep_model.specs.Fit.{Fit, vertexCount}
 use Rattle.sweep_model.specs.State.{Problem, State, opened, stageOf, waits?}
-use Rattle.sweep_model.specs.Steady.{Scanning, Steady}
+use Rattle.sweep_model.specs.code.Steady.{Scanning, Steady}
 use Rattle.sweep_model.specs.Sweep.{Progress, Twin, Verdict, andThen, at, go, goFor, none, on, openAt, pickFrom, start, turnsLeft, turnsOf}
 use mathlib.Core.Bool.{true}
 use mathlib.Core.List.{List}

@@ -9,7 +9,7 @@ use Rattle.sweep_model.proofs.Steady.{begin-giving, begin-steady, dropp
 use Rattle.sweep_model.specs.Fit.{Fit, vertexCount}
 use Rattle.sweep_model.specs.Normalise.{normalise}
 use Rattle.sweep_model.specs.State.{Problem, State, bare?, functionOf, gone?, literalFunction, open?, stageOf, withBook, withMark}
-use Rattle.sweep_model.specs.Steady.{Due, Giving, Scanning, Steady, Unsettled, haveNow?, leftNow, productOf, rightNow}
+use Rattle.sweep_model.specs.code.Steady.{Due, Giving, Scanning, Steady, Unsettled, haveNow?, leftNow, productOf, rightNow}
 use Rattle.sweep_model.specs.Sweep.{Progress, Twin, Verdict, andThen, answerOf, at, begin, cause, conclude, different, drop, ends, equal, giveRow, givenBack, go, goFor, inputsFrom, look, lookAt, meet, multiply, none, on, openAt, pickFrom, ready?, scanFrom, start, sweep, swept, topPart, turnsLeft, twinFrom, undecided, visit}
 use Rattle.sweep_model.specs.declared.Cause.the-variants.{Rows, Steps}
 use Rattle.truth.proofs.Booleans.{and-left, and-right}

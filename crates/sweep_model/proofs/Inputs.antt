@@ -2,7 +2,7 @@
 use Prim.Native.Nat.{_-_, _<_, _≤_, suc, zero, ℕ}
 use Rattle.product_model.proofs.Inputs.{input-ran, parts-input}
 use Rattle.product_model.proofs.Ran.{Ran}
-use Rattle.product_model.specs.Books.{Proper}
+use Rattle.product_model.specs.code.Books.{Proper}
 use Rattle.sweep_model.proofs.Steady.{inputRow}
 use Rattle.sweep_model.specs.Fit.{WellFormed}
 use Rattle.sweep_model.specs.State.{Problem, State, functionOf}

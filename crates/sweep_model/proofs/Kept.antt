@@ -9,7 +9,7 @@ use Rattle.sweep_model.proofs.Steady.{mark-steady}
 use Rattle.sweep_model.specs.Fit.{Fit, Sound, vertexCount}
 use Rattle.sweep_model.specs.Normalise.{merged?, resolve}
 use Rattle.sweep_model.specs.State.{Problem, State, literalFunction}
-use Rattle.sweep_model.specs.Steady.{Steady}
+use Rattle.sweep_model.specs.code.Steady.{Steady}
 use Rattle.sweep_model.specs.Sweep.{givenBack, sweep}
 use Rattle.truth.proofs.Steps.{steps-symmetric}
 use Rattle.truth.specs.Steps.{steps}

@@ -15,7 +15,7 @@ use Rattle.sweep_model.proofs.Tidy.{first-unmerged, made-merged, moves-
 use Rattle.sweep_model.specs.Fit.{Downward, Fit, Sound, vertexCount}
 use Rattle.sweep_model.specs.Normalise.{merged?, mergedInto, normalise, wasMerged?}
 use Rattle.sweep_model.specs.State.{Problem, State, functionOf, gone, gone?, has?, literalFunction, stageOf, waiting, withBook, withRows}
-use Rattle.sweep_model.specs.Steady.{Due, Moves, Scanning, Steady, Unsettled}
+use Rattle.sweep_model.specs.code.Steady.{Due, Moves, Scanning, Steady, Unsettled}
 use Rattle.sweep_model.specs.Sweep.{at, meet, swept, turnsLeft, turnsOf}
 use Rattle.truth.proofs.Booleans.{clash}
 use Rattle.truth.proofs.Equality.{alike-cases, equal-same, invert-twice, same-equal}

@@ -13,7 +13,7 @@ use Rattle.sweep_model.proofs.Tidy.{resolve-unmerged}
 use Rattle.sweep_model.specs.Fit.{Fit, vertexCount}
 use Rattle.sweep_model.specs.Normalise.{resolve, wasMerged?}
 use Rattle.sweep_model.specs.State.{Problem, Stage, State, bare?, dropped, dropped?, gone?, has?, opened, stageOf, waiting, waits?}
-use Rattle.sweep_model.specs.Steady.{Steady, Unsettled, haveNow?}
+use Rattle.sweep_model.specs.code.Steady.{Steady, Unsettled, haveNow?}
 use Rattle.sweep_model.specs.Sweep.{anyDropped?, drop, go, on, start, sweep, swept, turnsLeft, undecided}
 use Rattle.sweep_model.specs.declared.Cause.the-variants.{Idle}
 use Rattle.truth.proofs.Booleans.{clash}

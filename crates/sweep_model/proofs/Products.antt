@@ -3,7 +3,7 @@ use Prim.Native.Nat.{ℕ}
 use Rattle.aig.specs.Literal.{inverted?, vertexOf}
 use Rattle.aig.specs.Lookup.{firstWord, secondWord}
 use Rattle.product_model.proofs.Ran.{Ran, ran-as, run-ran}
-use Rattle.product_model.specs.Books.{Proper, Stored}
+use Rattle.product_model.specs.code.Books.{Proper, Stored}
 use Rattle.sweep_model.proofs.Functions.{literal-perfect}
 use Rattle.sweep_model.proofs.Kept.{steps-kept}
 use Rattle.sweep_model.proofs.Marked.{andAt}
@@ -14,7 +14,7 @@ use Rattle.sweep_model.specs.Claims.{andSteps}
 use Rattle.sweep_model.specs.Fit.{Fit}
 use Rattle.sweep_model.specs.Normalise.{merged?}
 use Rattle.sweep_model.specs.State.{Problem, State, functionOf, has?, literalFunction, open?, stageOf}
-use Rattle.sweep_model.specs.Steady.{Due, productOf}
+use Rattle.sweep_model.specs.code.Steady.{Due, productOf}
 use Rattle.truth.proofs.Parts.{alike-invert, alike-sameness, parts-alike}
 use Rattle.truth.specs.Distinct.{among}
 use Rattle.truth.specs.Parts.{alike?, parts}

@@ -17,9 +17,9 @@ use Rattle.sweep_model.proofs.Tidy.{first-unmerged, still-merged}
 use Rattle.sweep_model.specs.Claims.{andSteps, marked}
 use Rattle.sweep_model.specs.Fit.{Fit, vertexCount}
 use Rattle.sweep_model.specs.Normalise.{normalise, wake, wasMerged?}
-use Rattle.sweep_model.specs.Reachable.{Accounted, Apart, InputsMarked, Reachable, StageFits}
+use Rattle.sweep_model.specs.code.Reachable.{Accounted, Apart, InputsMarked, Reachable, StageFits}
 use Rattle.sweep_model.specs.State.{Problem, Stage, State, bare, bare?, dropped, dropped?, functionOf, gone, gone?, has?, opened, stageOf, waiting, waits?, withBook}
-use Rattle.sweep_model.specs.Steady.{Due, Giving, Steady, productOf}
+use Rattle.sweep_model.specs.code.Steady.{Due, Giving, Steady, productOf}
 use Rattle.sweep_model.specs.Sweep.{at, begin, drop, meet, none, swept, twinFrom}
 use Rattle.truth.proofs.Booleans.{clash, not-true}
 use Rattle.truth.proofs.Parts.{alike-sameness, parts-constant}

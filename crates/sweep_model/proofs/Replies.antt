@@ -3,7 +3,7 @@ use Prim.Native.Nat.{_+_, _<_, _≤_, suc, ℕ}
 use Rattle.product_model.proofs.Cases.{impossible}
 use Rattle.product_model.proofs.Ran.{ShortOfRows, ShortOfSteps, is-short-of-rows, is-short-of-steps}
 use Rattle.product_model.proofs.Store.{rows-together}
-use Rattle.product_model.specs.Books.{Holds, Proper, Stored}
+use Rattle.product_model.specs.code.Books.{Holds, Proper, Stored}
 use Rattle.product_model.specs.Run.{Book, shortOfRows, shortOfSteps}
 use Rattle.sweep_model.proofs.Accounts.{fits-now, holds-now}
 use Rattle.sweep_model.proofs.Choices.{pick-waits}
@@ -18,9 +18,9 @@ use Rattle.sweep_model.proofs.Tidy.{first-unmerged}
 use Rattle.sweep_model.specs.Claims.{And, Names, andSteps, andsOf, by-rows, by-steps, is, isEither, marked, rowsMarkedWithLast, stepsMarked, stepsMarkedWithLast, sum}
 use Rattle.sweep_model.specs.Fit.{Fit, vertexCount}
 use Rattle.sweep_model.specs.Normalise.{wasMerged?}
-use Rattle.sweep_model.specs.Reachable.{Accounted, AllStored, Apart, InputsMarked, MarkFits, Reachable, StageFits}
+use Rattle.sweep_model.specs.code.Reachable.{Accounted, AllStored, Apart, InputsMarked, MarkFits, Reachable, StageFits}
 use Rattle.sweep_model.specs.State.{Problem, Stage, State, bare?, dropped?, functionOf, has?, stageOf, withBook, withMark}
-use Rattle.sweep_model.specs.Steady.{Due, Giving, Scanning, Steady, productOf}
+use Rattle.sweep_model.specs.code.Steady.{Due, Giving, Scanning, Steady, productOf}
 use Rattle.sweep_model.specs.Sweep.{Verdict, anyDropped?, cause, different, equal, givenBack, undecided}
 use Rattle.sweep_model.specs.declared.Cause.the-variants.{Idle, Rows, Size, Steps}
 use Rattle.sweep_model.specs.declared.Cause.{Cause}

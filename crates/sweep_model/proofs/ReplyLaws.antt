@@ -1,7 +1,7 @@
 -- The laws of every reply: rows, steps and marks, each by its own name.
 use Prim.Native.Nat.{_+_, _-_, _<_, _≤_, suc, zero, ℕ}
 use Rattle.product_model.proofs.Store.{holds-rows}
-use Rattle.product_model.specs.Books.{Stored}
+use Rattle.product_model.specs.code.Books.{Stored}
 use Rattle.sweep_model.proofs.Apart.{apart-unlike, apart-varies}
 use Rattle.sweep_model.proofs.Induction.{sweep-keeps}
 use Rattle.sweep_model.proofs.Inputs.{own-part, part-own}
@@ -14,7 +14,7 @@ use Rattle.sweep_model.proofs.Tidy.{made-merged}
 use Rattle.sweep_model.specs.Claims.{And, Names, andSteps, andsOf, by-rows, by-steps, is, isEither, marked, rowsMarked, rowsMarkedWithLast, stepsMarked, stepsMarkedWithLast, sum}
 use Rattle.sweep_model.specs.Fit.{Fit, vertexCount}
 use Rattle.sweep_model.specs.Normalise.{merged?, wasMerged?}
-use Rattle.sweep_model.specs.Reachable.{InputsMarked}
+use Rattle.sweep_model.specs.code.Reachable.{InputsMarked}
 use Rattle.sweep_model.specs.State.{Problem, State, functionOf, has?, stageOf}
 use Rattle.sweep_model.specs.Sweep.{Verdict, sweep, undecided}
 use Rattle.sweep_model.specs.declared.Cause.the-variants.{Rows, Size, Steps}

@@ -6,7 +6,7 @@ use Rattle.sweep_model.proofs.Induction.{Endings, endings-keep, sweep-k
 use Rattle.sweep_model.proofs.Rows.{resolve-function}
 use Rattle.sweep_model.specs.Fit.{Fit}
 use Rattle.sweep_model.specs.State.{Problem, State, literalFunction}
-use Rattle.sweep_model.specs.Steady.{Steady, leftNow, rightNow}
+use Rattle.sweep_model.specs.code.Steady.{Steady, leftNow, rightNow}
 use Rattle.sweep_model.specs.Sweep.{Verdict, different, equal, sweep, undecided}
 use Rattle.sweep_model.specs.declared.Cause.{Cause}
 use Rattle.truth.proofs.Booleans.{clash}

@@ -3,7 +3,7 @@ use Prim.Native.Nat.{ℕ}
 use Rattle.aig.specs.Literal.{vertexOf}
 use Rattle.product_model.proofs.Cases.{impossible}
 use Rattle.sweep_model.proofs.Induction.{Keeps, sweep-keeps}
-use Rattle.sweep_model.specs.Steady.{leftNow, rightNow}
+use Rattle.sweep_model.specs.code.Steady.{leftNow, rightNow}
 use Rattle.sweep_model.specs.Choices.{OutputsApart, inverse, with-diagrams}
 use Rattle.sweep_model.specs.Fit.{Fit}
 use Rattle.sweep_model.specs.State.{Problem, State, has?, stageOf}

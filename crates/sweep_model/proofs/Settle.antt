@@ -17,7 +17,7 @@ use Rattle.sweep_model.proofs.Rows.{resolve-agree, resolve-within, row-
 use Rattle.sweep_model.proofs.Tidy.{equal-merged, first-unmerged, merged-agree, resolve-kept, resolve-unmerged, tidy-agree, tidy-less, unequal-stays, unequal-unmerged}
 use Rattle.sweep_model.specs.Fit.{Downward}
 use Rattle.sweep_model.specs.Normalise.{foldedRow, foundRow, merged?, mergedInto, normaliseFrom, normaliseRow, resolve, wasMerged?}
-use Rattle.sweep_model.specs.Steady.{Moves, Tidy}
+use Rattle.sweep_model.specs.code.Steady.{Moves, Tidy}
 use Rattle.truth.proofs.Booleans.{clash}
 use borrow.Author.Tests.{eqb-true}
 use lib.Dec.{leb}

@@ -15,7 +15,7 @@ use Rattle.sweep_model.proofs.Tidy.{merged-equal, resolve-kept, resolve
 use Rattle.sweep_model.specs.Fit.{Fit, vertexCount}
 use Rattle.sweep_model.specs.Normalise.{normalise, resolve, wasMerged?}
 use Rattle.sweep_model.specs.State.{Problem, Stage, State, dropped, gone, gone?, has?, opened, stageOf, waiting, waits?, withBook}
-use Rattle.sweep_model.specs.Steady.{Moves, Steady}
+use Rattle.sweep_model.specs.code.Steady.{Moves, Steady}
 use Rattle.sweep_model.specs.Sweep.{at, begin, drop, givenBack, swept}
 use Rattle.truth.proofs.Booleans.{bool-cases, clash, or-cases, or-left}
 use lib.ListN.{getD, length, set}

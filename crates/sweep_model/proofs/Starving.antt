@@ -15,7 +15,7 @@ use Rattle.sweep_model.proofs.Tidy.{made-merged, merged-equal, resolve-
 use Rattle.sweep_model.specs.Fit.{Downward, Fit, vertexCount}
 use Rattle.sweep_model.specs.Normalise.{merged?, resolve, wake, wasMerged?}
 use Rattle.sweep_model.specs.State.{Problem, Stage, State, bare?, gone, gone?, has?, open?, opened, stageOf, waiting, waits?, withBook}
-use Rattle.sweep_model.specs.Steady.{Due, Giving, Steady, Tidy}
+use Rattle.sweep_model.specs.code.Steady.{Due, Giving, Steady, Tidy}
 use Rattle.sweep_model.specs.Sweep.{at, meet, ready?}
 use Rattle.truth.proofs.Booleans.{bool-cases, clash, not-true, or-right}
 use borrow.Author.Tests.{le-leb}

@@ -11,7 +11,7 @@ use Rattle.sweep_model.proofs.Turns.{takes-turns, turns-set, waiting-tu
 use Rattle.sweep_model.specs.Fit.{Fit, Sound, WellFormed, vertexCount}
 use Rattle.sweep_model.specs.Normalise.{normalise, normaliseFrom, wasMerged?}
 use Rattle.sweep_model.specs.State.{Problem, Stage, State, bare, dropped, functionOf, gone, gone?, has?, opened, stageOf, waiting, waits?, withBook, withMark, withStages}
-use Rattle.sweep_model.specs.Steady.{Due, Giving, Moves, Scanning, Staged, Steady, Unsettled, leftNow, rightNow}
+use Rattle.sweep_model.specs.code.Steady.{Due, Giving, Moves, Scanning, Staged, Steady, Unsettled, leftNow, rightNow}
 use Rattle.sweep_model.specs.Sweep.{begin, drop, swept, topPart, turnsLeft, turnsOf}
 use Rattle.truth.proofs.Booleans.{clash}
 use lib.ListN.{getD-replicate, length, length-replicate, length-set, replicate, set}

@@ -7,7 +7,7 @@ use Rattle.sweep_model.proofs.Tidy.{first-unmerged, made-merged, merged
 use Rattle.sweep_model.specs.Fit.{Downward}
 use Rattle.sweep_model.specs.Normalise.{merged?, takeAt, takesFrom, wake, wakeAt, wasMerged?}
 use Rattle.sweep_model.specs.State.{Stage, bare?, gone, gone?, has?, open?, opened, stageOf}
-use Rattle.sweep_model.specs.Steady.{Staged, Tidy}
+use Rattle.sweep_model.specs.code.Steady.{Staged, Tidy}
 use Rattle.truth.proofs.Booleans.{clash}
 use lib.ListN.{length, length-set, set}
 use lib.Seq.{getD-set-other, getD-set-same}

@@ -7,7 +7,7 @@ use Rattle.aig.specs.Pairs.{straight}
 use Rattle.sweep_model.proofs.Rows.{onto-vertex, resolve-cases, resolve-first, resolve-merged, resolve-onto, resolve-stays}
 use Rattle.sweep_model.specs.Fit.{Downward}
 use Rattle.sweep_model.specs.Normalise.{merged?, resolve, wasMerged?}
-use Rattle.sweep_model.specs.Steady.{Moves, Tidy}
+use Rattle.sweep_model.specs.code.Steady.{Moves, Tidy}
 use Rattle.truth.proofs.Booleans.{and-left, and-right, clash, not-true}
 use borrow.Author.Tests.{eq-eqb, le-leb, leb-true, lt-leb, ne-eqb}
 use lib.Dec.{eqb, leb}

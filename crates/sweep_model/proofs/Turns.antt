@@ -5,7 +5,7 @@ use Rattle.sweep_model.proofs.Takes.{Alive, either?, taken, taken-alive
 use Rattle.sweep_model.specs.Fit.{Downward}
 use Rattle.sweep_model.specs.Normalise.{merged?, takeAt, takesFrom, wake, wakeAt}
 use Rattle.sweep_model.specs.State.{Stage, again, bare, dropped, gone, gone?, opened, stageOf, waiting, waits?}
-use Rattle.sweep_model.specs.Steady.{Tidy}
+use Rattle.sweep_model.specs.code.Steady.{Tidy}
 use Rattle.sweep_model.specs.Sweep.{turnsLeft, turnsOf}
 use Rattle.truth.proofs.Booleans.{clash}
 use lib.ListN.{length, set}

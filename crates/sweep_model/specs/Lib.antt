@@ -5,5 +5,4 @@ pub mod Fit
 pub mod Sweep
 pub mod Claims
 pub mod Cards
-pub mod Steady
-pub mod Reachable
+pub mod code

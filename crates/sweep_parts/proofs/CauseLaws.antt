@@ -1,11 +1,11 @@
 -- The cause of a sweep at rest: whether some vertex is dropped, and what that makes the cause.
 use Prim.Native.Nat.{_+_, _-_, _<_, _≤_, suc, ℕ}
 use Rattle.aig.specs.Lookup.{firstWord}
-use Rattle.sweep_graph.specs.Stages.{stagesFrom, stagesOf, wordStage}
+use Rattle.sweep_graph.specs.code.Stages.{stagesFrom, stagesOf, wordStage}
 use Rattle.sweep_model.specs.State.{dropped?}
 use Rattle.sweep_model.specs.Sweep.{anyDropped?}
 use Rattle.sweep_model.specs.declared.Cause.the-variants.{Idle, Size}
-use Rattle.sweep_parts.specs.Cause.{causeBy}
+use Rattle.sweep_parts.specs.code.Cause.{causeBy}
 use mathlib.Core.Bool.{Bool, _||_, false, true}
 use mathlib.Core.List.{List}
 use mathlib.Core.Path.{_≡_, refl}

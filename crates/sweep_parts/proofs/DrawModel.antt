@@ -8,20 +8,20 @@ use Rattle.bdd.proofs.MakeLaws.{grown-denote, grown-reference}
 use Rattle.bdd.proofs.OwnerLaws.{OwnerSet, owner-set}
 use Rattle.bdd.proofs.RowsLaws.{length-put}
 use Rattle.bdd.specs.Diagram.{Canonical, denote, storeOf}
-use Rattle.bdd.specs.Owners.{withOwner}
-use Rattle.bdd.specs.Rows.{RADIX, highAt, ownerAt, put}
-use Rattle.bdd.specs.Store.{Agree, Store}
-use Rattle.bdd.specs.Unique.{Grown}
+use Rattle.bdd.specs.code.Owners.{withOwner}
+use Rattle.bdd.specs.code.Rows.{RADIX, highAt, ownerAt, put}
+use Rattle.bdd.specs.code.Store.{Agree, Store}
+use Rattle.bdd.specs.code.Unique.{Grown}
 use Rattle.product.specs.Product.{bookOf}
 use Rattle.sweep_graph.proofs.StageLaws.{stages-set}
-use Rattle.sweep_graph.specs.Stages.{withStage, wordStage}
-use Rattle.sweep_graph.specs.Takes.{hasWord, held}
+use Rattle.sweep_graph.specs.code.Stages.{withStage, wordStage}
+use Rattle.sweep_graph.specs.code.Takes.{hasWord, held}
 use Rattle.sweep_model.proofs.Rows.{row-other}
-use Rattle.sweep_model.specs.Reachable.{Reachable}
+use Rattle.sweep_model.specs.code.Reachable.{Reachable}
 use Rattle.sweep_model.specs.State.{has?, withBook}
 use Rattle.sweep_model.specs.Sweep.{swept}
-use Rattle.sweep_parts.specs.Represents.{Drawing, Owners, Owns, Represents}
-use Rattle.sweep_parts.specs.Words.{Words, posed, stateOf, words}
+use Rattle.sweep_parts.specs.code.Represents.{Drawing, Owners, Owns, Represents}
+use Rattle.sweep_parts.specs.code.Words.{Words, posed, stateOf, words}
 use Rattle.sweep_parts.specs.declared.task.Task.{Task}
 use Rattle.truth.proofs.Booleans.{clash}
 use Rattle.truth.specs.Truth.{Truth}

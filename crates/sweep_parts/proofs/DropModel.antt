@@ -2,29 +2,29 @@
 use Prim.Native.Nat.{_*_, _/_, _<_, _≤_, ℕ}
 use Rattle.aig.specs.Lookup.{firstWord}
 use Rattle.bdd.specs.Diagram.{storeOf}
-use Rattle.bdd.specs.Rows.{ownerAt}
-use Rattle.bdd.specs.Store.{Kept}
-use Rattle.bdd.specs.Unique.{GivenBack, Grown}
+use Rattle.bdd.specs.code.Rows.{ownerAt}
+use Rattle.bdd.specs.code.Store.{Kept}
+use Rattle.bdd.specs.code.Unique.{GivenBack, Grown}
 use Rattle.product.proofs.Laws.{back, back-functions}
 use Rattle.product.specs.Product.{bookOf}
 use Rattle.product_model.specs.Run.{done}
 use Rattle.sweep_graph.proofs.StageLaws.{stages-set}
-use Rattle.sweep_graph.specs.Stages.{withStage, wordStage}
-use Rattle.sweep_graph.specs.Takes.{hasWord, held}
+use Rattle.sweep_graph.specs.code.Stages.{withStage, wordStage}
+use Rattle.sweep_graph.specs.code.Takes.{hasWord, held}
 use Rattle.sweep_model.proofs.Reachable.{dropped-reachable}
 use Rattle.sweep_model.proofs.Stages.{bare-lacks}
 use Rattle.sweep_model.proofs.Steady.{due-within}
 use Rattle.sweep_model.specs.State.{functionOf, has?, stageOf, withBook, withMark}
-use Rattle.sweep_model.specs.Steady.{Due, productOf}
+use Rattle.sweep_model.specs.code.Steady.{Due, productOf}
 use Rattle.sweep_model.specs.Sweep.{drop, givenBack}
 use Rattle.sweep_model.specs.declared.Cause.{Cause}
 use Rattle.sweep_parts.proofs.DrawModel.{drawing-kept}
 use Rattle.sweep_parts.proofs.LookModel.{has-stage}
-use Rattle.sweep_parts.specs.Ending.{Closed}
-use Rattle.sweep_parts.specs.Meet.{board}
-use Rattle.sweep_parts.specs.Represents.{Owns, Represents}
-use Rattle.sweep_parts.specs.Sheets.{sheets}
-use Rattle.sweep_parts.specs.Words.{Words, posed, stateOf, words}
+use Rattle.sweep_parts.specs.code.Ending.{Closed}
+use Rattle.sweep_parts.specs.code.Meet.{board}
+use Rattle.sweep_parts.specs.code.Represents.{Owns, Represents}
+use Rattle.sweep_parts.specs.code.Sheets.{sheets}
+use Rattle.sweep_parts.specs.code.Words.{Words, posed, stateOf, words}
 use Rattle.sweep_parts.specs.declared.end.End.the-variants.{Undecided}
 use Rattle.sweep_parts.specs.declared.task.Task.{Task}
 use Rattle.truth.proofs.Booleans.{clash}

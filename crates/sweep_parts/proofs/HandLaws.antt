@@ -8,22 +8,22 @@ use Rattle.bdd.proofs.DiagramLaws.{canonical, constant-reference, denote-consta
 use Rattle.bdd.proofs.ReferenceLaws.{edge-row}
 use Rattle.bdd.proofs.RowsLaws.{length-put}
 use Rattle.bdd.specs.Diagram.{Canonical, edge}
-use Rattle.bdd.specs.Owners.{withOwner}
-use Rattle.bdd.specs.Rows.{RADIX, highAt, ownerAt}
-use Rattle.bdd.specs.Store.{Agree, Store}
+use Rattle.bdd.specs.code.Owners.{withOwner}
+use Rattle.bdd.specs.code.Rows.{RADIX, highAt, ownerAt}
+use Rattle.bdd.specs.code.Store.{Agree, Store}
 use Rattle.sweep_graph.proofs.DrawnLaws.{Drawn, takes-drawn}
 use Rattle.sweep_graph.proofs.StageLaws.{stage-word}
 use Rattle.sweep_graph.proofs.TakeLaws.{take-room}
-use Rattle.sweep_graph.specs.Graph.{Graph}
-use Rattle.sweep_graph.specs.Stages.{stageWord, withStage, wordStage}
-use Rattle.sweep_graph.specs.Takes.{Held, Room, handedOver, hasWord, held, leave, takeWords, takenDiagrams, takesWords, wakeWords}
+use Rattle.sweep_graph.specs.code.Graph.{Graph}
+use Rattle.sweep_graph.specs.code.Stages.{stageWord, withStage, wordStage}
+use Rattle.sweep_graph.specs.code.Takes.{Held, Room, handedOver, hasWord, held, leave, takeWords, takenDiagrams, takesWords, wakeWords}
 use Rattle.sweep_model.proofs.Rows.{row-other}
 use Rattle.sweep_model.proofs.Stages.{has-wake}
 use Rattle.sweep_model.specs.Normalise.{merged?, wake}
 use Rattle.sweep_model.specs.State.{functionOf, gone, gone?, has?}
 use Rattle.sweep_parts.proofs.DrawModel.{RowOwned, row-owned}
-use Rattle.sweep_parts.specs.Represents.{Drawing, Owners, Owns}
-use Rattle.sweep_parts.specs.Words.{posed}
+use Rattle.sweep_parts.specs.code.Represents.{Drawing, Owners, Owns}
+use Rattle.sweep_parts.specs.code.Words.{posed}
 use Rattle.sweep_parts.specs.declared.task.Task.{Task}
 use Rattle.truth.proofs.Booleans.{clash}
 use Rattle.truth.specs.Truth.{Truth, constantly}

@@ -2,8 +2,8 @@
 use Prim.Native.Nat.{ℕ}
 use Rattle.aig.specs.Literal.{lit, negate, vertexOf}
 use Rattle.aig.specs.declared.literal.Literal.{Literal}
-use Rattle.sweep_graph.specs.Takes.{hasWord}
-use Rattle.sweep_parts.specs.Look.{comparedAs, referenceOf, seenAt}
+use Rattle.sweep_graph.specs.code.Takes.{hasWord}
+use Rattle.sweep_parts.specs.code.Look.{comparedAs, referenceOf, seenAt}
 use Rattle.sweep_parts.specs.declared.end.End.the-variants.{Differ, Equal, Inverse}
 use Rattle.sweep_parts.specs.declared.look.Seen.the-variants.{Decided, Nothing}
 use Rattle.sweep_parts.specs.declared.look.Seen.{Seen}

@@ -7,16 +7,16 @@ use Rattle.bdd.proofs.DiagramLaws.{canonical, denote-inverse, inverse-reference
 use Rattle.bdd.proofs.ReferenceLaws.{edge-even, edge-same, parity}
 use Rattle.bdd.specs.Diagram.{Reference, denote}
 use Rattle.sweep_graph.proofs.StageLaws.{stage-at}
-use Rattle.sweep_graph.specs.Stages.{stagesOf}
-use Rattle.sweep_graph.specs.Takes.{hasWord}
+use Rattle.sweep_graph.specs.code.Stages.{stagesOf}
+use Rattle.sweep_graph.specs.code.Takes.{hasWord}
 use Rattle.sweep_model.proofs.Rows.{resolve-within}
 use Rattle.sweep_model.specs.Normalise.{resolve}
 use Rattle.sweep_model.specs.State.{State, has?, literalFunction, stageOf}
 use Rattle.sweep_model.specs.Sweep.{different, ends, equal, look, lookAt, on}
-use Rattle.sweep_parts.specs.Ending.{verdictOf}
-use Rattle.sweep_parts.specs.Look.{Looks, SeenRefers, comparedAs, progressOf, referenceOf, seenAt, seenBy}
-use Rattle.sweep_parts.specs.Represents.{Drawing, Represents}
-use Rattle.sweep_parts.specs.Words.{Words, posed, stateOf}
+use Rattle.sweep_parts.specs.code.Ending.{verdictOf}
+use Rattle.sweep_parts.specs.code.Look.{Looks, SeenRefers, comparedAs, progressOf, referenceOf, seenAt, seenBy}
+use Rattle.sweep_parts.specs.code.Represents.{Drawing, Represents}
+use Rattle.sweep_parts.specs.code.Words.{Words, posed, stateOf}
 use Rattle.sweep_parts.specs.declared.end.End.the-variants.{Differ, Equal, Inverse}
 use Rattle.sweep_parts.specs.declared.look.Seen.the-variants.{Decided, Nothing}
 use Rattle.sweep_parts.specs.declared.task.Task.{Task}

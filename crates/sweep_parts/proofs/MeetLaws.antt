@@ -6,15 +6,15 @@ use Rattle.aig.specs.Literal.{lit, literalOf}
 use Rattle.aig.specs.Lookup.{firstWord, withRow}
 use Rattle.aig.specs.declared.literal.Literal.{Literal}
 use Rattle.bdd.proofs.RowsLaws.{length-put}
-use Rattle.bdd.specs.Owners.{withOwner}
-use Rattle.bdd.specs.Rows.{RADIX, highAt, ownerAt}
+use Rattle.bdd.specs.code.Owners.{withOwner}
+use Rattle.bdd.specs.code.Rows.{RADIX, highAt, ownerAt}
 use Rattle.sweep_graph.proofs.GraphLaws.{graph-kept, graph-merged}
-use Rattle.sweep_graph.specs.Graph.{Graph}
-use Rattle.sweep_graph.specs.Takes.{Held, Room, held}
+use Rattle.sweep_graph.specs.code.Graph.{Graph}
+use Rattle.sweep_graph.specs.code.Takes.{Held, Room, held}
 use Rattle.sweep_model.proofs.Rows.{row-other}
 use Rattle.sweep_model.specs.Normalise.{normaliseFrom}
-use Rattle.sweep_parts.specs.Meet.{Board, MeetAsked, MergeAsked, board, handedIn, heldOf, inverse?, joined, mergedBoard, mergedPairs, metBoard, metWith, twinAt, withHeld}
-use Rattle.sweep_parts.specs.Sheets.{Sheets, drawnAt, sheets}
+use Rattle.sweep_parts.specs.code.Meet.{Board, MeetAsked, MergeAsked, board, handedIn, heldOf, inverse?, joined, mergedBoard, mergedPairs, metBoard, metWith, twinAt, withHeld}
+use Rattle.sweep_parts.specs.code.Sheets.{Sheets, drawnAt, sheets}
 use Rattle.sweep_parts.specs.declared.task.Task.{Task}
 use Rattle.sweep_parts.specs.declared.twin.Twin.the-variants.{At, None}
 use borrow.Author.Tests.{eq-eqb, ne-eqb}

@@ -6,24 +6,24 @@ use Rattle.bdd.proofs.DiagramLaws.{denote-inverse}
 use Rattle.bdd.proofs.ReferenceLaws.{edge-even, edge-row, edge-same, parity}
 use Rattle.bdd.proofs.StoreLaws.{store-frame}
 use Rattle.bdd.specs.Diagram.{Canonical, edge}
-use Rattle.bdd.specs.Rows.{MARK, RADIX}
+use Rattle.bdd.specs.code.Rows.{MARK, RADIX}
 use Rattle.product.specs.Product.{bookOf}
 use Rattle.product_model.specs.Run.{Book}
 use Rattle.sweep_graph.proofs.GraphLaws.{graph-kept}
 use Rattle.sweep_graph.proofs.TakesModel.{normalise-rows, normalise-stages}
-use Rattle.sweep_graph.specs.Graph.{Graph}
-use Rattle.sweep_graph.specs.Stages.{stagesOf}
-use Rattle.sweep_graph.specs.Takes.{Held, takesWords}
+use Rattle.sweep_graph.specs.code.Graph.{Graph}
+use Rattle.sweep_graph.specs.code.Stages.{stagesOf}
+use Rattle.sweep_graph.specs.code.Takes.{Held, takesWords}
 use Rattle.sweep_model.proofs.Functions.{function-self}
 use Rattle.sweep_model.specs.Fit.{Downward, Fit, Sound, WellFormed}
 use Rattle.sweep_model.specs.Normalise.{merged?, normalise, normaliseFrom}
-use Rattle.sweep_model.specs.Reachable.{Reachable}
+use Rattle.sweep_model.specs.code.Reachable.{Reachable}
 use Rattle.sweep_model.specs.State.{Problem, Stage, State, functionOf, literalFunction}
 use Rattle.sweep_parts.proofs.DrawModel.{drawing-kept}
 use Rattle.sweep_parts.proofs.HandLaws.{Handed, takes-handed}
-use Rattle.sweep_parts.specs.Meet.{handedIn}
-use Rattle.sweep_parts.specs.Represents.{Drawing, Represents}
-use Rattle.sweep_parts.specs.Words.{Words, posed, stateOf, words}
+use Rattle.sweep_parts.specs.code.Meet.{handedIn}
+use Rattle.sweep_parts.specs.code.Represents.{Drawing, Represents}
+use Rattle.sweep_parts.specs.code.Words.{Words, posed, stateOf, words}
 use Rattle.sweep_parts.specs.declared.task.Task.{Task}
 use Rattle.truth.proofs.Equality.{inverse-alike, invert-twice}
 use Rattle.truth.proofs.Parts.{size-alike}

@@ -3,9 +3,9 @@ use Prim.Native.Nat.{_/_, _<_, _≤_, ℕ}
 use Rattle.aig.specs.Lookup.{firstWord, secondWord}
 use Rattle.bdd.proofs.DiagramLaws.{denote-constant, one-row-alike}
 use Rattle.bdd.proofs.StoreLaws.{alike-row}
-use Rattle.bdd.specs.Rows.{ownerAt}
-use Rattle.sweep_graph.specs.Stages.{stagesOf}
-use Rattle.sweep_graph.specs.Takes.{hasWord}
+use Rattle.bdd.specs.code.Rows.{ownerAt}
+use Rattle.sweep_graph.specs.code.Stages.{stagesOf}
+use Rattle.sweep_graph.specs.code.Takes.{hasWord}
 use Rattle.sweep_model.proofs.Apart.{twin-one}
 use Rattle.sweep_model.proofs.Choices.{IsTwin, twin-at, twin-none}
 use Rattle.sweep_model.proofs.Stages.{has-not-gone, stage-within}
@@ -14,9 +14,9 @@ use Rattle.sweep_model.specs.Sweep as model
 use Rattle.sweep_model.specs.Sweep.{at, none, twinFrom}
 use Rattle.sweep_parts.proofs.DrawModel.{Draws, carried}
 use Rattle.sweep_parts.proofs.LookModel.{has-stage}
-use Rattle.sweep_parts.specs.Meet.{twinAt}
-use Rattle.sweep_parts.specs.Represents.{Represents}
-use Rattle.sweep_parts.specs.Words.{Words, posed}
+use Rattle.sweep_parts.specs.code.Meet.{twinAt}
+use Rattle.sweep_parts.specs.code.Represents.{Represents}
+use Rattle.sweep_parts.specs.code.Words.{Words, posed}
 use Rattle.sweep_parts.specs.declared.task.Task.{Task}
 use Rattle.sweep_parts.specs.declared.twin.Twin.the-variants.{At, None}
 use Rattle.sweep_parts.specs.declared.twin.Twin.{Twin}

@@ -1,9 +1,1 @@
-pub mod Words
-pub mod Sheets
-pub mod Represents
-pub mod Meet
-pub mod Settle
-pub mod Ending
-pub mod Look
-pub mod Operands
-pub mod Cause
+pub mod code

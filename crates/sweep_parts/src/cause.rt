@@ -3,9 +3,9 @@ use sweep_graph::stage::is_dropped;
 use sweep_graph::words::first_word;
 use sweep_model::Cause;
 ghost use Prim.Native.Nat.{_*_, _≤_};
-ghost use Rattle.sweep_graph.specs.Stages.{stagesOf};
+ghost use Rattle.sweep_graph.specs.code.Stages.{stagesOf};
 ghost use Rattle.sweep_model.specs.Sweep.{anyDropped?};
-ghost use Rattle.sweep_parts.specs.Cause.{causeBy};
+ghost use Rattle.sweep_parts.specs.code.Cause.{causeBy};
 ghost use lib.ListN.{length};
 ghost use mathlib.Core.Path.{_≡_};
 

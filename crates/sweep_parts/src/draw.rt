@@ -4,8 +4,8 @@ use sweep_graph::stage::set_stage;
 use sweep_graph::take::own_row;
 use sweep_graph::words::set_words;
 ghost use Prim.Native.Nat.{_*_, _+_, _/_, _<_, _≤_};
-ghost use Rattle.bdd.specs.Rows.{RADIX};
-ghost use Rattle.sweep_parts.specs.Sheets.{drawnAt, sheets};
+ghost use Rattle.bdd.specs.code.Rows.{RADIX};
+ghost use Rattle.sweep_parts.specs.code.Sheets.{drawnAt, sheets};
 ghost use lib.ListN.{length};
 ghost use mathlib.Core.Path.{_≡_};
 

@@ -4,9 +4,9 @@ use bdd::unique::give_back;
 use sweep_graph::stage::DROPPED;
 use sweep_graph::stage::set_stage;
 ghost use Prim.Native.Nat.{_*_, _<_, _≤_};
-ghost use Rattle.bdd.specs.Store.{Store};
-ghost use Rattle.bdd.specs.Unique.{GivenBack};
-ghost use Rattle.sweep_graph.specs.Stages.{withStage};
+ghost use Rattle.bdd.specs.code.Store.{Store};
+ghost use Rattle.bdd.specs.code.Unique.{GivenBack};
+ghost use Rattle.sweep_graph.specs.code.Stages.{withStage};
 ghost use lib.ListN.{length, set};
 ghost use mathlib.Core.Path.{_≡_};
 

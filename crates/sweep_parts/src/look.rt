@@ -10,8 +10,8 @@ ghost use Prim.Native.Nat.{_*_, _<_};
 ghost use Rattle.aig.specs.Literal.{vertexOf};
 ghost use Rattle.aig.specs.Lookup.{firstWord};
 ghost use Rattle.bdd.specs.Diagram.{edge};
-ghost use Rattle.sweep_graph.specs.Takes.{hasWord};
-ghost use Rattle.sweep_parts.specs.Look.{Looks, comparedAs, seenAt, seenBy};
+ghost use Rattle.sweep_graph.specs.code.Takes.{hasWord};
+ghost use Rattle.sweep_parts.specs.code.Look.{Looks, comparedAs, seenAt, seenBy};
 ghost use lib.ListN.{length};
 ghost use mathlib.Core.Path.{_≡_};
 

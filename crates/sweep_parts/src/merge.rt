@@ -6,8 +6,8 @@ use sweep_graph::take::takes;
 use sweep_graph::words::first_word;
 use sweep_graph::words::set_words;
 ghost use Prim.Native.Nat.{_*_, _+_, _<_, _^_, max};
-ghost use Rattle.sweep_graph.specs.Takes.{held};
-ghost use Rattle.sweep_parts.specs.Meet.{MergeAsked, handedIn, inverse?, joined, mergedPairs};
+ghost use Rattle.sweep_graph.specs.code.Takes.{held};
+ghost use Rattle.sweep_parts.specs.code.Meet.{MergeAsked, handedIn, inverse?, joined, mergedPairs};
 ghost use lib.ListN.{length};
 ghost use mathlib.Core.Path.{_≡_};
 

@@ -6,7 +6,7 @@ use product::Product;
 use sweep_graph::words::first_word;
 use sweep_graph::words::second_word;
 ghost use Rattle.product.specs.Product.{Multiplies};
-ghost use Rattle.sweep_parts.specs.Operands.{ProductAsked, firstOperand, secondOperand};
+ghost use Rattle.sweep_parts.specs.code.Operands.{ProductAsked, firstOperand, secondOperand};
 
 // The product of the functions of v's two operands.
 pub fn take_product(

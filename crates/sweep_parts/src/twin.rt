@@ -1,7 +1,7 @@
 // The vertex that has a function or its inverse.
 use bdd::rows::owner_of;
 ghost use Prim.Native.Nat.{_*_, _/_, _≤_};
-ghost use Rattle.sweep_parts.specs.Meet.{twinAt};
+ghost use Rattle.sweep_parts.specs.code.Meet.{twinAt};
 ghost use lib.ListN.{length};
 ghost use mathlib.Core.Path.{_≡_};
 

@@ -3,28 +3,28 @@ use Prim.Native.Nat.{_-_, ℕ}
 use Rattle.aig.specs.Literal.{negate}
 use Rattle.sweep_model.proofs.Steady.{giving-scanning}
 use Rattle.sweep_model.specs.State.{Problem, State, literalFunction}
-use Rattle.sweep_model.specs.Steady.{Scanning, Unsettled, haveNow?, leftNow, rightNow}
+use Rattle.sweep_model.specs.code.Steady.{Scanning, Unsettled, haveNow?, leftNow, rightNow}
 use Rattle.sweep_model.specs.Sweep.{Progress, Verdict, andThen, different, ends, equal, inputsFrom, look, lookAt, on, start, turnsLeft}
 use Rattle.sweep_model.specs.declared.Cause.the-variants.{Rows}
 use Rattle.sweep_parts.proofs.LookModel.{look-models, look-refers, looks}
-use Rattle.sweep_parts.specs.Ending.{Ends, verdictOf}
-use Rattle.sweep_parts.specs.Look.{Looks, SeenRefers, progressOf, seenBy}
-use Rattle.sweep_parts.specs.Meet.{Board, board}
-use Rattle.sweep_parts.specs.Represents.{Represents}
-use Rattle.sweep_parts.specs.Settle.{onBoard, stateOn}
-use Rattle.sweep_parts.specs.Sheets.{Sheets}
-use Rattle.sweep_parts.specs.Words.{posed}
+use Rattle.sweep_parts.specs.code.Ending.{Ends, verdictOf}
+use Rattle.sweep_parts.specs.code.Look.{Looks, SeenRefers, progressOf, seenBy}
+use Rattle.sweep_parts.specs.code.Meet.{Board, board}
+use Rattle.sweep_parts.specs.code.Represents.{Represents}
+use Rattle.sweep_parts.specs.code.Settle.{onBoard, stateOn}
+use Rattle.sweep_parts.specs.code.Sheets.{Sheets}
+use Rattle.sweep_parts.specs.code.Words.{posed}
 use Rattle.sweep_parts.specs.declared.end.End.the-variants.{Undecided}
 use Rattle.sweep_parts.specs.declared.end.End.{End}
 use Rattle.sweep_parts.specs.declared.look.Seen.the-variants.{Decided, Nothing}
 use Rattle.sweep_parts.specs.declared.look.Seen.{Seen}
 use Rattle.sweep_parts.specs.declared.task.Task.{Task}
-use Rattle.sweep_start.specs.Given.{AllGiven, Frame, Framed, GivenTo, GivesRows}
-use Rattle.sweep_start.specs.Start.{GivesInputs, GivingIn, GoneOn, Poses, Prepared, Prepares, Starts, SweepAsked, inputsGiven}
+use Rattle.sweep_start.specs.code.Given.{AllGiven, Frame, Framed, GivenTo, GivesRows}
+use Rattle.sweep_start.specs.code.Start.{GivesInputs, GivingIn, GoneOn, Poses, Prepared, Prepares, Starts, SweepAsked, inputsGiven}
 use Rattle.sweep_start.specs.declared.inputs.Inputs.the-variants.{All, Short}
 use Rattle.sweep_start.specs.declared.inputs.Inputs.{Inputs}
 use Rattle.sweep_turn.proofs.EndModel.{looked-ends}
-use Rattle.sweep_turn.specs.Visit.{goingBy}
+use Rattle.sweep_turn.specs.code.Visit.{goingBy}
 use Rattle.sweep_turn.specs.declared.visit.Going.the-variants.{Ended, On}
 use Rattle.sweep_turn.specs.declared.visit.Going.{Going}
 use Rattle.truth.specs.Settings.{firstDifference}

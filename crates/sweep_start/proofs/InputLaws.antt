@@ -2,10 +2,10 @@
 use Prim.Native.Nat.{_*_, _-_, _/_, _<_, _^_, _≤_, ℕ}
 use Rattle.bdd.proofs.DiagramLaws.{constant-reference}
 use Rattle.bdd.proofs.MakeLaws.{MakeAsked}
-use Rattle.bdd.specs.Unique.{MadeAt}
-use Rattle.sweep_parts.specs.Sheets.{Sheets}
+use Rattle.bdd.specs.code.Unique.{MadeAt}
+use Rattle.sweep_parts.specs.code.Sheets.{Sheets}
 use Rattle.sweep_parts.specs.declared.task.Task.{Task}
-use Rattle.sweep_start.specs.Inputs.{RowAsked, levelOf}
+use Rattle.sweep_start.specs.code.Inputs.{RowAsked, levelOf}
 use lib.ListN.{length}
 use mathlib.Core.List.{List}
 use mathlib.Core.Path.{refl}

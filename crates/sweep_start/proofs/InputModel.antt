@@ -2,8 +2,8 @@
 use Prim.Native.Nat.{_+_, _-_, _/_, _<_, _≤_, suc, zero, ℕ}
 use Rattle.bdd.proofs.DiagramLaws.{denote-constant, denote-skip, reference-more}
 use Rattle.bdd.specs.Diagram.{denote}
-use Rattle.bdd.specs.Rows.{levelAt}
-use Rattle.bdd.specs.Unique.{MadeAt, MadeFull}
+use Rattle.bdd.specs.code.Rows.{levelAt}
+use Rattle.bdd.specs.code.Unique.{MadeAt, MadeFull}
 use Rattle.product.proofs.RunLaws.{row-full, row-made}
 use Rattle.product.specs.Product.{bookOf}
 use Rattle.product_model.specs.Run.{Book, addPart, addRow, done, shortOfRows}
@@ -11,18 +11,18 @@ use Rattle.sweep_model.proofs.Inputs.{top-input}
 use Rattle.sweep_model.proofs.Reachable.{input-reachable}
 use Rattle.sweep_model.proofs.Steady.{giving-swept, inputRow}
 use Rattle.sweep_model.specs.State.{functionOf, has?}
-use Rattle.sweep_model.specs.Steady.{Giving}
+use Rattle.sweep_model.specs.code.Steady.{Giving}
 use Rattle.sweep_model.specs.Sweep.{Progress, andThen, ends, giveRow, inputsFrom, on, topPart, undecided}
 use Rattle.sweep_model.specs.declared.Cause.the-variants.{Rows}
 use Rattle.sweep_parts.proofs.DrawModel.{Draws, drawn-represents, drawn-state}
 use Rattle.sweep_parts.proofs.LookModel.{has-stage}
-use Rattle.sweep_parts.specs.Ending.{verdictOf}
-use Rattle.sweep_parts.specs.Represents.{Represents}
-use Rattle.sweep_parts.specs.Sheets.{Sheets}
-use Rattle.sweep_parts.specs.Words.{Words, posed, stateOf}
+use Rattle.sweep_parts.specs.code.Ending.{verdictOf}
+use Rattle.sweep_parts.specs.code.Represents.{Represents}
+use Rattle.sweep_parts.specs.code.Sheets.{Sheets}
+use Rattle.sweep_parts.specs.code.Words.{Words, posed, stateOf}
 use Rattle.sweep_parts.specs.declared.task.Task.{Task}
-use Rattle.sweep_start.specs.Given.{AllGiven, Frame, Framed, GivenTo, ShortAt, givingFrom, stateIn}
-use Rattle.sweep_start.specs.Inputs.{RowAsked, RowGiven, RowLacked, levelOf}
+use Rattle.sweep_start.specs.code.Given.{AllGiven, Frame, Framed, GivenTo, ShortAt, givingFrom, stateIn}
+use Rattle.sweep_start.specs.code.Inputs.{RowAsked, RowGiven, RowLacked, levelOf}
 use Rattle.sweep_turn.proofs.EndModel.{marked-closed, represents-closed}
 use Rattle.truth.proofs.Parts.{constants-differ, size-input}
 use Rattle.truth.specs.Parts.{size}

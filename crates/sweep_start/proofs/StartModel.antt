@@ -4,14 +4,14 @@ use Rattle.aig.specs.Lookup.{cleared, firstWord, secondWord}
 use Rattle.bdd.proofs.ChainLaws.{agree-self}
 use Rattle.bdd.proofs.DiagramLaws.{constant-reference, denote-constant}
 use Rattle.bdd.specs.Diagram.{storeOf}
-use Rattle.bdd.specs.Unique.{Cleared}
+use Rattle.bdd.specs.code.Unique.{Cleared}
 use Rattle.product.specs.Product.{bookOf}
 use Rattle.sweep_graph.proofs.BeginLaws.{begin-marks, begin-room, begin-stages, cleared-length, cleared-word}
 use Rattle.sweep_graph.proofs.GraphLaws.{graph-kept}
-use Rattle.sweep_graph.specs.Begin.{begun}
-use Rattle.sweep_graph.specs.Graph.{Graph}
-use Rattle.sweep_graph.specs.Stages.{stageWord, stagesOf, wordStage}
-use Rattle.sweep_graph.specs.Takes.{Held, Room, hasWord, held}
+use Rattle.sweep_graph.specs.code.Begin.{begun}
+use Rattle.sweep_graph.specs.code.Graph.{Graph}
+use Rattle.sweep_graph.specs.code.Stages.{stageWord, stagesOf, wordStage}
+use Rattle.sweep_graph.specs.code.Takes.{Held, Room, hasWord, held}
 use Rattle.sweep_model.proofs.Reachable.{begin-reachable}
 use Rattle.sweep_model.proofs.Steady.{begin-giving}
 use Rattle.sweep_model.specs.Normalise.{normalise, normaliseFrom}
@@ -19,13 +19,13 @@ use Rattle.sweep_model.specs.State.{has?, opened}
 use Rattle.sweep_model.specs.Sweep.{begin}
 use Rattle.sweep_parts.proofs.HandLaws.{Handed}
 use Rattle.sweep_parts.proofs.NormaliseModel.{Normalises, normalised-represents, normalised-state, sound-graph}
-use Rattle.sweep_parts.specs.Meet.{Board, board, handedIn}
-use Rattle.sweep_parts.specs.Represents.{Drawing}
-use Rattle.sweep_parts.specs.Settle.{stateOn}
-use Rattle.sweep_parts.specs.Sheets.{sheets}
-use Rattle.sweep_parts.specs.Words.{posed}
+use Rattle.sweep_parts.specs.code.Meet.{Board, board, handedIn}
+use Rattle.sweep_parts.specs.code.Represents.{Drawing}
+use Rattle.sweep_parts.specs.code.Settle.{stateOn}
+use Rattle.sweep_parts.specs.code.Sheets.{sheets}
+use Rattle.sweep_parts.specs.code.Words.{posed}
 use Rattle.sweep_parts.specs.declared.task.Task.{Task}
-use Rattle.sweep_start.specs.Start.{Poses, PreparedFrom, Prepares, SweepAsked}
+use Rattle.sweep_start.specs.code.Start.{Poses, PreparedFrom, Prepares, SweepAsked}
 use Rattle.truth.proofs.Booleans.{clash}
 use Rattle.truth.proofs.Parts.{size-constant}
 use Rattle.truth.specs.Parts.{size}

@@ -1,3 +1,1 @@
-pub mod Inputs
-pub mod Given
-pub mod Start
+pub mod code

@@ -3,9 +3,9 @@ use bdd::unique::Made;
 use bdd::unique::make;
 use sweep_parts::draw::draw;
 use sweep_parts::task::Task;
-ghost use Rattle.sweep_parts.specs.Sheets.{sheets};
-ghost use Rattle.sweep_start.specs.Given.{Framed, GivesRows};
-ghost use Rattle.sweep_start.specs.Inputs.{Gives, RowAsked};
+ghost use Rattle.sweep_parts.specs.code.Sheets.{sheets};
+ghost use Rattle.sweep_start.specs.code.Given.{Framed, GivesRows};
+ghost use Rattle.sweep_start.specs.code.Inputs.{Gives, RowAsked};
 
 // The rows then used, or no row is left.
 pub enum Given {

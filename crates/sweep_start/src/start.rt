@@ -12,9 +12,9 @@ use sweep_parts::look::look;
 use sweep_parts::task::Task;
 use sweep_turn::visit::Going;
 use sweep_turn::visit::after_look;
-ghost use Rattle.sweep_parts.specs.Meet.{board};
-ghost use Rattle.sweep_parts.specs.Sheets.{sheets};
-ghost use Rattle.sweep_start.specs.Start.{GivesInputs, GivingIn, Prepares, Starts, SweepAsked};
+ghost use Rattle.sweep_parts.specs.code.Meet.{board};
+ghost use Rattle.sweep_parts.specs.code.Sheets.{sheets};
+ghost use Rattle.sweep_start.specs.code.Start.{GivesInputs, GivingIn, Prepares, Starts, SweepAsked};
 
 // No row is used, no vertex but the constant has a diagram, all marks are 0; and the rows of the graph are normalised.
 fn prepare(

@@ -7,13 +7,13 @@ use Rattle.bdd.specs.Diagram.{denote}
 use Rattle.product.specs.Product.{bookOf}
 use Rattle.product_model.specs.Run.{done}
 use Rattle.sweep_graph.proofs.StageLaws.{stages-set}
-use Rattle.sweep_graph.specs.Graph.{Graph}
-use Rattle.sweep_graph.specs.Stages.{stagesOf, wordStage}
+use Rattle.sweep_graph.specs.code.Graph.{Graph}
+use Rattle.sweep_graph.specs.code.Stages.{stagesOf, wordStage}
 use Rattle.sweep_model.proofs.Reachable.{merged-reachable, product-reachable}
 use Rattle.sweep_model.specs.Normalise.{mergedInto, normalise}
-use Rattle.sweep_model.specs.Reachable.{Reachable}
+use Rattle.sweep_model.specs.code.Reachable.{Reachable}
 use Rattle.sweep_model.specs.State.{Problem, State, functionOf, withBook, withRows}
-use Rattle.sweep_model.specs.Steady.{Due, productOf}
+use Rattle.sweep_model.specs.code.Steady.{Due, productOf}
 use Rattle.sweep_model.specs.Sweep.{at, meet, none, swept, twinFrom}
 use Rattle.sweep_parts.proofs.DrawModel.{Draws, all-owners, carried, drawn-represents, drawn-state, other-first, other-second, other-stage, own, own-first, own-second}
 use Rattle.sweep_parts.proofs.HandLaws.{Handed, owner-long}
@@ -21,11 +21,11 @@ use Rattle.sweep_parts.proofs.LookModel.{has-stage}
 use Rattle.sweep_parts.proofs.MeetLaws.{drawn-room, meet-asks, merge-graph}
 use Rattle.sweep_parts.proofs.NormaliseModel.{Normalises, normalised-represents, normalised-state, sound-graph}
 use Rattle.sweep_parts.proofs.TwinModel.{answered, twin-asked, twin-found, twin-models}
-use Rattle.sweep_parts.specs.Meet.{MeetAsked, MergeAsked, board, heldOf, inverse?, joined, mergedBoard, metBoard, metWith, twinAt}
-use Rattle.sweep_parts.specs.Represents.{Drawing, Represents}
-use Rattle.sweep_parts.specs.Settle.{boardOf, onBoard}
-use Rattle.sweep_parts.specs.Sheets.{Sheets, drawnAt, sheets}
-use Rattle.sweep_parts.specs.Words.{Words, posed, stateOf}
+use Rattle.sweep_parts.specs.code.Meet.{MeetAsked, MergeAsked, board, heldOf, inverse?, joined, mergedBoard, metBoard, metWith, twinAt}
+use Rattle.sweep_parts.specs.code.Represents.{Drawing, Represents}
+use Rattle.sweep_parts.specs.code.Settle.{boardOf, onBoard}
+use Rattle.sweep_parts.specs.code.Sheets.{Sheets, drawnAt, sheets}
+use Rattle.sweep_parts.specs.code.Words.{Words, posed, stateOf}
 use Rattle.sweep_parts.specs.declared.task.Task.{Task}
 use Rattle.sweep_parts.specs.declared.twin.Twin.the-variants.{At, None}
 use Rattle.sweep_parts.specs.declared.twin.Twin.{Twin}

@@ -2,8 +2,8 @@
 use Prim.Native.Nat.{_*_, _<_, _≤_, ℕ}
 use Rattle.aig.specs.Literal.{vertexOf}
 use Rattle.aig.specs.Lookup.{firstWord, secondWord}
-use Rattle.bdd.specs.Store.{Store}
-use Rattle.bdd.specs.Unique.{GivenBack}
+use Rattle.bdd.specs.code.Store.{Store}
+use Rattle.bdd.specs.code.Unique.{GivenBack}
 use Rattle.product.specs.Product.{Multiplied, Multiplies, bookOf, outcomeOf, usedBy}
 use Rattle.product.specs.declared.Product.the-variants.{Done, ShortOfRows, ShortOfSteps}
 use Rattle.product.specs.declared.Product.{Product}
@@ -11,23 +11,23 @@ use Rattle.product_model.specs.Run.{run}
 use Rattle.sweep_model.proofs.Stages.{open-has}
 use Rattle.sweep_model.proofs.Steady.{due-within}
 use Rattle.sweep_model.specs.State.{functionOf, open?, stageOf, withBook, withMark}
-use Rattle.sweep_model.specs.Steady.{productOf}
+use Rattle.sweep_model.specs.code.Steady.{productOf}
 use Rattle.sweep_model.specs.Sweep.{conclude, drop, ends, givenBack, look, meet, multiply, twinFrom, undecided}
 use Rattle.sweep_model.specs.declared.Cause.the-variants.{Rows, Steps}
 use Rattle.sweep_model.specs.declared.Cause.{Cause}
 use Rattle.sweep_parts.proofs.DropModel.{Returns, broken-closed, broken-state, due-inside}
 use Rattle.sweep_parts.proofs.LookModel.{LiteralDrawn, has-stage, literal-drawn, look-models, look-refers}
-use Rattle.sweep_parts.specs.Ending.{Ends, verdictOf}
-use Rattle.sweep_parts.specs.Look.{SeenRefers, progressOf, seenBy}
-use Rattle.sweep_parts.specs.Meet.{Board, board}
-use Rattle.sweep_parts.specs.Operands.{ProductAsked, firstOperand, secondOperand}
-use Rattle.sweep_parts.specs.Settle.{Ended, Setting, Settled, boardBefore, onBoard, settledState, stateBefore, stateOn}
-use Rattle.sweep_parts.specs.Sheets.{sheets}
-use Rattle.sweep_parts.specs.Words.{posed}
+use Rattle.sweep_parts.specs.code.Ending.{Ends, verdictOf}
+use Rattle.sweep_parts.specs.code.Look.{SeenRefers, progressOf, seenBy}
+use Rattle.sweep_parts.specs.code.Meet.{Board, board}
+use Rattle.sweep_parts.specs.code.Operands.{ProductAsked, firstOperand, secondOperand}
+use Rattle.sweep_parts.specs.code.Settle.{Ended, Setting, Settled, boardBefore, onBoard, settledState, stateBefore, stateOn}
+use Rattle.sweep_parts.specs.code.Sheets.{sheets}
+use Rattle.sweep_parts.specs.code.Words.{posed}
 use Rattle.sweep_parts.specs.declared.end.End.the-variants.{Undecided}
 use Rattle.sweep_parts.specs.declared.look.Seen.{Seen}
 use Rattle.sweep_parts.specs.declared.task.Task.{Task}
-use Rattle.sweep_step.specs.Multiply.{Concludes, DueOn, Looked, Scene, Takes, multiplied, sceneOf}
+use Rattle.sweep_step.specs.code.Multiply.{Concludes, DueOn, Looked, Scene, Takes, multiplied, sceneOf}
 use Rattle.sweep_step.specs.declared.multiply.Step.the-variants as step
 use Rattle.sweep_step.specs.declared.multiply.Step.{Step}
 use Rattle.truth.proofs.Booleans.{cond-ap}

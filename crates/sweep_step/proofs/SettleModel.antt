@@ -1,16 +1,16 @@
 -- A product that is done, dropped or met, as in the model.
 use Prim.Native.Nat.{_*_, _<_, _^_, _≤_, ℕ}
-use Rattle.bdd.specs.Marks.{Sized}
-use Rattle.bdd.specs.Store.{Store}
-use Rattle.bdd.specs.Unique.{GivenBack}
-use Rattle.sweep_graph.specs.Stages.{withStage}
+use Rattle.bdd.specs.code.Marks.{Sized}
+use Rattle.bdd.specs.code.Store.{Store}
+use Rattle.bdd.specs.code.Unique.{GivenBack}
+use Rattle.sweep_graph.specs.code.Stages.{withStage}
 use Rattle.sweep_model.specs.State.{functionOf}
 use Rattle.sweep_parts.proofs.DrawModel.{Draws}
 use Rattle.sweep_parts.proofs.DropModel.{Returns, dropped-represents, dropped-state, due-inside, due-lacks}
-use Rattle.sweep_parts.specs.Meet.{Board, MeetAsked, board, metBoard}
-use Rattle.sweep_parts.specs.Settle.{Ended, Setting, Settled, wordsBefore}
-use Rattle.sweep_parts.specs.Sheets.{sheets}
-use Rattle.sweep_parts.specs.Words.{posed}
+use Rattle.sweep_parts.specs.code.Meet.{Board, MeetAsked, board, metBoard}
+use Rattle.sweep_parts.specs.code.Settle.{Ended, Setting, Settled, wordsBefore}
+use Rattle.sweep_parts.specs.code.Sheets.{sheets}
+use Rattle.sweep_parts.specs.code.Words.{posed}
 use Rattle.sweep_parts.specs.declared.task.Task.{Task}
 use Rattle.sweep_step.proofs.MeetModel.{meet-asked, met-represents, met-state}
 use Rattle.truth.specs.Parts.{size}

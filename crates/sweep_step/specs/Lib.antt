@@ -1,1 +1,1 @@
-pub mod Multiply
+pub mod code

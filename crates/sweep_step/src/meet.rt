@@ -4,8 +4,8 @@ use sweep_parts::merge::merge;
 use sweep_parts::task::Task;
 use sweep_parts::twin::Twin;
 use sweep_parts::twin::find_twin;
-ghost use Rattle.sweep_parts.specs.Meet.{MeetAsked, board, metBoard};
-ghost use Rattle.sweep_parts.specs.Sheets.{sheets};
+ghost use Rattle.sweep_parts.specs.code.Meet.{MeetAsked, board, metBoard};
+ghost use Rattle.sweep_parts.specs.code.Sheets.{sheets};
 ghost use mathlib.Core.Path.{_≡_};
 
 // Vertex v gets its diagram; where another vertex has its function or the inverse, the two merge.

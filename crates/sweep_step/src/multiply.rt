@@ -7,10 +7,10 @@ use sweep_parts::look::look;
 use sweep_parts::operands::take_product;
 use sweep_parts::task::Task;
 ghost use Prim.Native.Nat.{_*_, _≤_};
-ghost use Rattle.sweep_parts.specs.Meet.{board};
-ghost use Rattle.sweep_parts.specs.Settle.{EndedIn};
-ghost use Rattle.sweep_parts.specs.Sheets.{sheets};
-ghost use Rattle.sweep_step.specs.Multiply.{Concludes, DueIn, Takes};
+ghost use Rattle.sweep_parts.specs.code.Meet.{board};
+ghost use Rattle.sweep_parts.specs.code.Settle.{EndedIn};
+ghost use Rattle.sweep_parts.specs.code.Sheets.{sheets};
+ghost use Rattle.sweep_step.specs.code.Multiply.{Concludes, DueIn, Takes};
 ghost use lib.ListN.{length};
 
 // What was seen after a product that is done, or the limit that was passed; with the rows then used and the steps taken.

@@ -4,9 +4,9 @@ use bdd::size::size;
 use sweep_parts::drop::drop_vertex;
 use sweep_parts::task::Task;
 ghost use Prim.Native.Nat.{_*_, _≤_};
-ghost use Rattle.sweep_parts.specs.Meet.{board};
-ghost use Rattle.sweep_parts.specs.Settle.{Ended, EndedIn, Setting, Settled};
-ghost use Rattle.sweep_parts.specs.Sheets.{sheets};
+ghost use Rattle.sweep_parts.specs.code.Meet.{board};
+ghost use Rattle.sweep_parts.specs.code.Settle.{Ended, EndedIn, Setting, Settled};
+ghost use Rattle.sweep_parts.specs.code.Sheets.{sheets};
 ghost use lib.ListN.{length};
 
 // Vertex v, whose product has a reference, is dropped where it is too large, and else met. Gives the rows then used.

@@ -2,17 +2,17 @@
 use Prim.Native.Nat.{ℕ}
 use Rattle.sweep_model.specs.State.{State}
 use Rattle.sweep_model.specs.Sweep.{Progress, ends}
-use Rattle.sweep_parts.specs.Ending.{Closed, Ends, Refers, verdictOf}
-use Rattle.sweep_parts.specs.Look.{SeenRefers, progressOf}
-use Rattle.sweep_parts.specs.Meet.{Board, board}
-use Rattle.sweep_parts.specs.Represents.{Represents}
-use Rattle.sweep_parts.specs.Settle.{onBoard, stateOn}
-use Rattle.sweep_parts.specs.Sheets.{sheets}
+use Rattle.sweep_parts.specs.code.Ending.{Closed, Ends, Refers, verdictOf}
+use Rattle.sweep_parts.specs.code.Look.{SeenRefers, progressOf}
+use Rattle.sweep_parts.specs.code.Meet.{Board, board}
+use Rattle.sweep_parts.specs.code.Represents.{Represents}
+use Rattle.sweep_parts.specs.code.Settle.{onBoard, stateOn}
+use Rattle.sweep_parts.specs.code.Sheets.{sheets}
 use Rattle.sweep_parts.specs.declared.end.End.{End}
 use Rattle.sweep_parts.specs.declared.look.Seen.the-variants.{Decided, Nothing}
 use Rattle.sweep_parts.specs.declared.look.Seen.{Seen}
 use Rattle.sweep_parts.specs.declared.task.Task.{Task}
-use Rattle.sweep_turn.specs.Visit.{goingBy}
+use Rattle.sweep_turn.specs.code.Visit.{goingBy}
 use Rattle.sweep_turn.specs.declared.visit.Going.the-variants.{Ended, On}
 use Rattle.sweep_turn.specs.declared.visit.Going.{Going}
 use Rattle.truth.specs.Truth.{Truth}

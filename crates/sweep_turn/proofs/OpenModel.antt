@@ -1,15 +1,15 @@
 -- A vertex opened: the words stand for the model's state.
 use Prim.Native.Nat.{ℕ, _*_, _<_}
 use Rattle.sweep_graph.proofs.StageLaws.{stages-set}
-use Rattle.sweep_graph.specs.Stages.{withStage, wordStage}
-use Rattle.sweep_graph.specs.Takes.{hasWord}
+use Rattle.sweep_graph.specs.code.Stages.{withStage, wordStage}
+use Rattle.sweep_graph.specs.code.Takes.{hasWord}
 use Rattle.sweep_model.proofs.Reachable.{opened-reachable}
 use Rattle.sweep_model.proofs.Stages.{waits-has}
 use Rattle.sweep_model.proofs.Steady.{openedAt}
 use Rattle.sweep_model.specs.State.{has?, stageOf, waits?}
 use Rattle.sweep_parts.proofs.LookModel.{has-stage}
-use Rattle.sweep_parts.specs.Represents.{Represents}
-use Rattle.sweep_parts.specs.Words.{Words, stateOf, words}
+use Rattle.sweep_parts.specs.code.Represents.{Represents}
+use Rattle.sweep_parts.specs.code.Words.{Words, stateOf, words}
 use Rattle.sweep_parts.specs.declared.task.Task.{Task}
 use Rattle.truth.specs.Truth.{Truth}
 use lib.ListN.{length-set}

@@ -1,13 +1,13 @@
 -- The loop of a scan: what follows is what followed from its first vertex.
 use Prim.Native.Nat.{_+_, _-_, _<_, _≤_, suc, ℕ}
 use Rattle.sweep_model.specs.Sweep.{Progress, andThen, scanFrom}
-use Rattle.sweep_parts.specs.Meet.{Board}
-use Rattle.sweep_parts.specs.Words.{posed}
+use Rattle.sweep_parts.specs.code.Meet.{Board}
+use Rattle.sweep_parts.specs.code.Words.{posed}
 use Rattle.sweep_parts.specs.declared.end.End.{End}
 use Rattle.sweep_parts.specs.declared.task.Task.{Task}
-use Rattle.sweep_step.specs.Multiply.{Scene}
-use Rattle.sweep_turn.specs.Scan.{Scans, scannedFrom}
-use Rattle.sweep_turn.specs.Visit.{ScanIn, ScanOn, Visits, visited}
+use Rattle.sweep_step.specs.code.Multiply.{Scene}
+use Rattle.sweep_turn.specs.code.Scan.{Scans, scannedFrom}
+use Rattle.sweep_turn.specs.code.Visit.{ScanIn, ScanOn, Visits, visited}
 use Rattle.sweep_turn.specs.declared.visit.Going.the-variants.{Ended, On}
 use Rattle.sweep_turn.specs.declared.visit.Going.{Going}
 use lib.ListN.{length}

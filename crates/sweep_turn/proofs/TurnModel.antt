@@ -1,21 +1,21 @@
 -- A turn: a vertex opens, and the scan that follows is the model's.
 use Prim.Native.Nat.{_+_, _-_, suc, ℕ}
 use Rattle.sweep_graph.proofs.StageLaws.{stages-length}
-use Rattle.sweep_graph.specs.Stages.{withStage}
+use Rattle.sweep_graph.specs.code.Stages.{withStage}
 use Rattle.sweep_model.proofs.Steady.{openedAt, scanning-opened}
 use Rattle.sweep_model.specs.State.{State}
-use Rattle.sweep_model.specs.Steady.{Scanning}
+use Rattle.sweep_model.specs.code.Steady.{Scanning}
 use Rattle.sweep_model.specs.Sweep.{openAt, scanFrom}
-use Rattle.sweep_parts.specs.Meet.{Board, board}
-use Rattle.sweep_parts.specs.Settle.{stateOn}
-use Rattle.sweep_parts.specs.Sheets.{sheets}
-use Rattle.sweep_parts.specs.Words.{posed}
+use Rattle.sweep_parts.specs.code.Meet.{Board, board}
+use Rattle.sweep_parts.specs.code.Settle.{stateOn}
+use Rattle.sweep_parts.specs.code.Sheets.{sheets}
+use Rattle.sweep_parts.specs.code.Words.{posed}
 use Rattle.sweep_parts.specs.declared.task.Task.{Task}
-use Rattle.sweep_step.specs.Multiply.{Scene}
+use Rattle.sweep_step.specs.code.Multiply.{Scene}
 use Rattle.sweep_turn.proofs.OpenModel.{opened-represents, opened-state}
-use Rattle.sweep_turn.specs.Scan.{Scans, scannedFrom}
-use Rattle.sweep_turn.specs.Turn.{OpenIn, OpenOn, Opens, openedBy}
-use Rattle.sweep_turn.specs.Visit.{ScanIn, ScanOn}
+use Rattle.sweep_turn.specs.code.Scan.{Scans, scannedFrom}
+use Rattle.sweep_turn.specs.code.Turn.{OpenIn, OpenOn, Opens, openedBy}
+use Rattle.sweep_turn.specs.code.Visit.{ScanIn, ScanOn}
 use Rattle.sweep_turn.specs.declared.visit.Going.the-variants.{Ended, On}
 use Rattle.sweep_turn.specs.declared.visit.Going.{Going}
 use mathlib.Core.List.{List}

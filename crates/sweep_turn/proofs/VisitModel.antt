@@ -3,29 +3,29 @@ use Prim.Native.Nat.{_*_, _<_, _≤_, suc, ℕ}
 use Rattle.aig.specs.Literal.{vertexOf}
 use Rattle.aig.specs.Lookup.{firstWord, secondWord}
 use Rattle.sweep_graph.proofs.StageLaws.{stage-at}
-use Rattle.sweep_graph.specs.Stages.{wordStage}
+use Rattle.sweep_graph.specs.code.Stages.{wordStage}
 use Rattle.sweep_model.proofs.Induction.{Claim, Keeps, Reached, endings-keep, goes-on, visit-claim}
 use Rattle.sweep_model.proofs.Steady.{scanning-passed}
 use Rattle.sweep_model.specs.Fit.{Downward, Fit, vertexCount}
 use Rattle.sweep_model.specs.State.{Problem, State, bare?, open?, stageOf}
-use Rattle.sweep_model.specs.Steady.{Scanning, Steady}
+use Rattle.sweep_model.specs.code.Steady.{Scanning, Steady}
 use Rattle.sweep_model.specs.Sweep.{Verdict, on, ready?, visit}
 use Rattle.sweep_model.specs.declared.Cause.the-variants.{Rows, Steps}
-use Rattle.sweep_parts.specs.Ending.{Ends}
-use Rattle.sweep_parts.specs.Look.{progressOf}
-use Rattle.sweep_parts.specs.Meet.{Board}
-use Rattle.sweep_parts.specs.Settle.{stateOn}
-use Rattle.sweep_parts.specs.Words.{posed}
+use Rattle.sweep_parts.specs.code.Ending.{Ends}
+use Rattle.sweep_parts.specs.code.Look.{progressOf}
+use Rattle.sweep_parts.specs.code.Meet.{Board}
+use Rattle.sweep_parts.specs.code.Settle.{stateOn}
+use Rattle.sweep_parts.specs.code.Words.{posed}
 use Rattle.sweep_parts.specs.declared.end.End.the-variants.{Undecided}
 use Rattle.sweep_parts.specs.declared.end.End.{End}
 use Rattle.sweep_parts.specs.declared.look.Seen.the-variants.{Decided, Nothing}
 use Rattle.sweep_parts.specs.declared.look.Seen.{Seen}
 use Rattle.sweep_parts.specs.declared.task.Task.{Task}
-use Rattle.sweep_step.specs.Multiply.{DueOn, Looked, Scene, Takes, multiplied}
+use Rattle.sweep_step.specs.code.Multiply.{DueOn, Looked, Scene, Takes, multiplied}
 use Rattle.sweep_step.specs.declared.multiply.Step.the-variants as step
 use Rattle.sweep_step.specs.declared.multiply.Step.{Step}
 use Rattle.sweep_turn.proofs.EndModel.{looked-ends}
-use Rattle.sweep_turn.specs.Visit.{ReadyAsked, ScanOn, Visits, WentOn, goingBy, goingOf, openWord, readyAt, visited}
+use Rattle.sweep_turn.specs.code.Visit.{ReadyAsked, ScanOn, Visits, WentOn, goingBy, goingOf, openWord, readyAt, visited}
 use Rattle.sweep_turn.specs.declared.visit.Going.the-variants.{Ended}
 use Rattle.sweep_turn.specs.declared.visit.Going.{Going}
 use Rattle.truth.proofs.Booleans.{and-left, and-right}

@@ -1,3 +1,1 @@
-pub mod Visit
-pub mod Scan
-pub mod Turn
+pub mod code

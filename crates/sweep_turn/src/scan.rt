@@ -3,10 +3,10 @@ use crate::visit::Going;
 use crate::visit::visit;
 use sweep_parts::task::Task;
 ghost use Prim.Native.Nat.{_*_, _≤_};
-ghost use Rattle.sweep_parts.specs.Meet.{board};
-ghost use Rattle.sweep_parts.specs.Sheets.{sheets};
-ghost use Rattle.sweep_turn.specs.Scan.{Scans};
-ghost use Rattle.sweep_turn.specs.Visit.{ScanIn};
+ghost use Rattle.sweep_parts.specs.code.Meet.{board};
+ghost use Rattle.sweep_parts.specs.code.Sheets.{sheets};
+ghost use Rattle.sweep_turn.specs.code.Scan.{Scans};
+ghost use Rattle.sweep_turn.specs.code.Visit.{ScanIn};
 ghost use lib.ListN.{length};
 
 pub fn scan(

@@ -7,9 +7,9 @@ use sweep_graph::stage::OPENED;
 use sweep_graph::stage::set_stage;
 use sweep_parts::task::Task;
 ghost use Prim.Native.Nat.{_*_, _≤_};
-ghost use Rattle.sweep_parts.specs.Meet.{board};
-ghost use Rattle.sweep_parts.specs.Sheets.{sheets};
-ghost use Rattle.sweep_turn.specs.Turn.{Goes, OpenIn, Opens, RestIn};
+ghost use Rattle.sweep_parts.specs.code.Meet.{board};
+ghost use Rattle.sweep_parts.specs.code.Sheets.{sheets};
+ghost use Rattle.sweep_turn.specs.code.Turn.{Goes, OpenIn, Opens, RestIn};
 ghost use lib.ListN.{length};
 
 // Vertex v opens, and every higher vertex is visited.

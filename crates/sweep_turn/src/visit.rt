@@ -12,9 +12,9 @@ use sweep_step::multiply::Step;
 use sweep_step::multiply::multiply;
 ghost use Prim.Native.Nat.{_*_, _<_, _≤_};
 ghost use Rattle.aig.specs.Literal.{vertexOf};
-ghost use Rattle.sweep_parts.specs.Meet.{board};
-ghost use Rattle.sweep_parts.specs.Sheets.{sheets};
-ghost use Rattle.sweep_turn.specs.Visit.{ReadyAsked, ScanIn, Visits, goingBy, goingOf, openWord, readyAt};
+ghost use Rattle.sweep_parts.specs.code.Meet.{board};
+ghost use Rattle.sweep_parts.specs.code.Sheets.{sheets};
+ghost use Rattle.sweep_turn.specs.code.Visit.{ReadyAsked, ScanIn, Visits, goingBy, goingOf, openWord, readyAt};
 ghost use lib.ListN.{length};
 ghost use mathlib.Core.Path.{_≡_};
 

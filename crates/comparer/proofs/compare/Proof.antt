@@ -2,7 +2,7 @@
 -- The laws say it of the arguments as given.
 use Rattle.compare_model.proofs.RefusalLaws.{passed}
 use Rattle.compare_model.specs.Compare.{Given}
-use Rattle.compare_parts.specs.Code.{given}
+use Rattle.compare_parts.specs.code.Code.{given}
 use Rattle.comparer.proofs.CompareLaws.{finished, finishes, refusal-found, turned-back}
 use Rattle.comparer.proofs.compare.Statement.{statement}
 use Rattle.comparer.proofs.compare.Tie as tie

@@ -1,6 +1,6 @@
 -- The refusal is decided over lengths and shared borrows, and then the work is done on what is known to be good; no loop.
 -- At a refusal nothing has been written.
-use Rattle.loader.specs.Load.{accepted, tableAfter}
+use Rattle.load_model.specs.Load.{accepted, tableAfter}
 use Rattle.load.proofs.Deciding.{goes-on, goes-table, refusal-result}
 use Rattle.load.proofs.load.Statement.{statement}
 use Rattle.load.proofs.load.Tie as tie

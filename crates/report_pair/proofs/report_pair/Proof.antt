@@ -2,14 +2,14 @@
 -- Each return is a case of the report.
 use Rattle.compare_model.specs.Compare.{Room}
 use Rattle.load.specs.Lent.{working}
-use Rattle.loader.specs.Load.{answerOf}
+use Rattle.load_model.specs.Load.{answerOf}
 use Rattle.report_model.proofs.ReportLaws.{long-enough, report-short, works-accepted}
 use Rattle.report_model.specs.Report.{Lent, loadRoom, programLimits, short?}
 use Rattle.report_pair.proofs.ComparedLaws.{same-room}
 use Rattle.report_pair.proofs.ReportLaws.{accepted-report, front-stored, refused-report, refused-unchanged, table-ready}
 use Rattle.report_pair.proofs.report_pair.Statement.{statement}
 use Rattle.report_pair.proofs.report_pair.Tie as tie
-use Rattle.report_pair.specs.Slices.{lent}
+use Rattle.report_pair.specs.code.Slices.{lent}
 use Rattle.truth.proofs.Booleans.{clash}
 use borrow.Author.Needs.{needs}
 use lib.ListN.{length}

@@ -2,7 +2,7 @@
 -- No loop.
 use Rattle.bdd.proofs.rows.head_of.Statement.{statement}
 use Rattle.bdd.proofs.rows.head_of.Tie as tie
-use Rattle.bdd.specs.Rows.{headAt, wordAt}
+use Rattle.bdd.specs.code.Rows.{headAt, wordAt}
 use borrow.Author.Needs.{needs}
 use mathlib.Core.Path.{_∙_, ap}
 use native.Mathlib.Numerals.{add-one}

@@ -3,7 +3,7 @@
 use Prim.Native.Nat.{_%_}
 use Rattle.bdd.proofs.rows.level_of.Statement.{statement}
 use Rattle.bdd.proofs.rows.level_of.Tie as tie
-use Rattle.bdd.specs.Rows.{MARK, levelAt}
+use Rattle.bdd.specs.code.Rows.{MARK, levelAt}
 use borrow.Author.Needs.{needs}
 use mathlib.Core.Path.{ap}
 use native.Mathlib.Nat.{mod-lt}

@@ -3,7 +3,7 @@
 use Prim.Native.Nat.{_/_}
 use Rattle.bdd.proofs.rows.low_of.Statement.{statement}
 use Rattle.bdd.proofs.rows.low_of.Tie as tie
-use Rattle.bdd.specs.Rows.{RADIX, lowAt}
+use Rattle.bdd.specs.code.Rows.{RADIX, lowAt}
 use borrow.Author.Needs.{needs}
 use mathlib.Core.Path.{ap}
 use native.Mathlib.Omega.{arith}

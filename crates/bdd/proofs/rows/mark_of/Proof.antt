@@ -3,7 +3,7 @@
 use Prim.Native.Nat.{_%_, _/_}
 use Rattle.bdd.proofs.rows.mark_of.Statement.{statement}
 use Rattle.bdd.proofs.rows.mark_of.Tie as tie
-use Rattle.bdd.specs.Rows.{MARK, markAt}
+use Rattle.bdd.specs.code.Rows.{MARK, markAt}
 use borrow.Author.Needs.{needs}
 use mathlib.Core.Path.{ap}
 

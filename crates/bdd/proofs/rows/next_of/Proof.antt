@@ -2,7 +2,7 @@
 -- No loop.
 use Rattle.bdd.proofs.rows.next_of.Statement.{statement}
 use Rattle.bdd.proofs.rows.next_of.Tie as tie
-use Rattle.bdd.specs.Rows.{nextAt}
+use Rattle.bdd.specs.code.Rows.{nextAt}
 use borrow.Author.Needs.{needs}
 
 word-of-requires : tie.Need-word-of-requires

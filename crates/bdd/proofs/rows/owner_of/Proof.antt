@@ -3,7 +3,7 @@
 use Prim.Native.Nat.{_%_}
 use Rattle.bdd.proofs.rows.owner_of.Statement.{statement}
 use Rattle.bdd.proofs.rows.owner_of.Tie as tie
-use Rattle.bdd.specs.Rows.{RADIX, ownerAt}
+use Rattle.bdd.specs.code.Rows.{RADIX, ownerAt}
 use borrow.Author.Needs.{needs}
 use mathlib.Core.Path.{ap}
 use native.Mathlib.Nat.{mod-lt}

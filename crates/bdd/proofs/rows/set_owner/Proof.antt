@@ -3,8 +3,8 @@
 use Prim.Native.Nat.{_*_, _+_}
 use Rattle.bdd.proofs.rows.set_owner.Statement.{statement}
 use Rattle.bdd.proofs.rows.set_owner.Tie as tie
-use Rattle.bdd.specs.Owners.{withOwner}
-use Rattle.bdd.specs.Rows.{RADIX, put}
+use Rattle.bdd.specs.code.Owners.{withOwner}
+use Rattle.bdd.specs.code.Rows.{RADIX, put}
 use borrow.Author.Needs.{needs}
 use mathlib.Core.Path.{_∙_, ap}
 

@@ -4,8 +4,8 @@ use Prim.Native.Nat.{_+_}
 use Rattle.bdd.proofs.MarkLaws.{mark-room}
 use Rattle.bdd.proofs.size.set_mark.Statement.{statement}
 use Rattle.bdd.proofs.size.set_mark.Tie as tie
-use Rattle.bdd.specs.Marks.{marked}
-use Rattle.bdd.specs.Rows.{MARK, put}
+use Rattle.bdd.specs.code.Marks.{marked}
+use Rattle.bdd.specs.code.Rows.{MARK, put}
 use borrow.Author.Needs.{needs}
 use mathlib.Core.Path.{_∙_, ap}
 use native.Mathlib.Omega.{arith}

@@ -3,7 +3,7 @@
 use Prim.Native.Nat.{_*_, _+_}
 use Rattle.bdd.proofs.unique.bucket_of.Statement.{statement}
 use Rattle.bdd.proofs.unique.bucket_of.Tie as tie
-use Rattle.bdd.specs.Store.{bucket}
+use Rattle.bdd.specs.code.Store.{bucket}
 use borrow.Author.Needs.{needs}
 use mathlib.Core.Path.{refl}
 use native.Mathlib.Nat.{mod-lt}

@@ -4,8 +4,8 @@ use Prim.Native.Nat.{suc}
 use Rattle.bdd.proofs.ChainLaws.{bucket-fields}
 use Rattle.bdd.proofs.unique.unlink.Statement.{statement}
 use Rattle.bdd.proofs.unique.unlink.Tie as tie
-use Rattle.bdd.specs.Rows.{put}
-use Rattle.bdd.specs.Unique.{unlinked}
+use Rattle.bdd.specs.code.Rows.{put}
+use Rattle.bdd.specs.code.Unique.{unlinked}
 use borrow.Author.Needs.{needs}
 use mathlib.Core.Path.{_∙_, ap, ap₂}
 use native.Mathlib.Numerals.{add-one}

@@ -3,7 +3,7 @@
 use Rattle.compare_model.specs.Compare.{callTests}
 use Rattle.compare_parts.proofs.refusal.first_refusal.Statement.{statement}
 use Rattle.compare_parts.proofs.refusal.first_refusal.Tie as tie
-use Rattle.compare_parts.specs.Code.{limitsOf, roomOf}
+use Rattle.compare_parts.specs.code.Code.{limitsOf, roomOf}
 use Rattle.table.proofs.AcceptedLaws.{accepted}
 use Rattle.table.proofs.RefusalLaws.{refused-first, table-passed}
 use Rattle.table.specs.Table.{tableTests}

@@ -4,7 +4,7 @@ use Prim.Native.Nat.{_*_, _+_, _-_, _<_, _≤_}
 use Rattle.evaluate.proofs.NumberLaws.{bits-ahead, values-end, values-step}
 use Rattle.evaluate.proofs.values.fill_rows.Statement.{statement}
 use Rattle.evaluate.proofs.values.fill_rows.Tie as tie
-use Rattle.evaluate.specs.Values.{numberValues}
+use Rattle.evaluate.specs.code.Values.{numberValues}
 use Rattle.table.proofs.AcceptedLaws.{row-words-below}
 use Rattle.table.specs.Table.{inputsOf, pairs, rowsOf, verticesOf}
 use borrow.Author.Needs.{needs}

@@ -3,7 +3,7 @@
 use Rattle.load.proofs.Deciding.{both-checked, checked-is}
 use Rattle.load.proofs.decision.decide.Statement.{statement}
 use Rattle.load.proofs.decision.decide.Tie as tie
-use Rattle.load.specs.Decision.{decision}
+use Rattle.load.specs.code.Decision.{decision}
 use Rattle.table.specs.Refusals.{firstRefusal}
 use borrow.Author.Needs.{needs}
 use borrow.Author.Tests.{le-ltb, lt-ltb}

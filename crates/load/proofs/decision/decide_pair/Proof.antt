@@ -1,9 +1,9 @@
 -- Each return is one test of the list; no loop.
 -- At the last none applies.
-use Rattle.loader.specs.Load.{shortSlice?}
+use Rattle.load_model.specs.Load.{shortSlice?}
 use Rattle.load.proofs.decision.decide_pair.Statement.{statement}
 use Rattle.load.proofs.decision.decide_pair.Tie as tie
-use Rattle.load.specs.Decision.{pairDecision}
+use Rattle.load.specs.code.Decision.{pairDecision}
 use Rattle.table.specs.Refusals.{firstRefusal}
 use borrow.Author.Needs.{needs}
 use borrow.Author.Tests.{eq-eqb, le-ltb, lt-ltb, ne-eqb}

@@ -2,7 +2,7 @@
 -- At the last both files are accepted.
 use Rattle.load.proofs.decision.decide_read.Statement.{statement}
 use Rattle.load.proofs.decision.decide_read.Tie as tie
-use Rattle.load.specs.Decision.{readDecision}
+use Rattle.load.specs.code.Decision.{readDecision}
 use borrow.Author.Needs.{needs}
 use mathlib.Core.Path.{refl, _∙_}
 

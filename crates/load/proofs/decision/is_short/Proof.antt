@@ -1,6 +1,6 @@
 -- Each return is one case of the test; no loop.
 -- The last test alone decides where the others do not apply.
-use Rattle.loader.specs.Load.{shortSlice?}
+use Rattle.load_model.specs.Load.{shortSlice?}
 use Rattle.load.proofs.decision.is_short.Statement.{statement}
 use Rattle.load.proofs.decision.is_short.Tie as tie
 use borrow.Author.Needs.{needs}

@@ -1,7 +1,7 @@
 -- Invariant: the gates ahead, asked for from here, come to what all of them come to; the slices hold a graph and keep their lengths.
 -- The measure is what is left of the vertices.
 use Prim.Native.Nat.{_-_}
-use Rattle.loader_graph.specs.Slices.{Graph, tracedOf}
+use Rattle.load_graph.specs.code.Slices.{Graph, tracedOf}
 use Rattle.load.proofs.Passing.{GatesFrom, gates-begin, gates-due, gates-ended, gates-next, gates-passed}
 use Rattle.load.proofs.file.ask_gates.Statement.{statement}
 use Rattle.load.proofs.file.ask_gates.Tie as tie

@@ -1,8 +1,8 @@
 -- Invariant: the literals of the vertices below v are written, and the others are ahead.
 -- The measure is what is left of the vertices.
 use Prim.Native.Nat.{_-_, _≤_}
-use Rattle.loader.specs.Build.{literalsFrom}
-use Rattle.loader_graph.proofs.Writing.{Writing}
+use Rattle.load_model.specs.Build.{literalsFrom}
+use Rattle.load_graph.proofs.Writing.{Writing}
 use Rattle.load.proofs.Copying.{literals-begin, literals-end, literals-turn}
 use Rattle.load.proofs.file.write_first_literals.Statement.{statement}
 use Rattle.load.proofs.file.write_first_literals.Tie as tie

@@ -1,7 +1,7 @@
 -- Invariant: the words before i are written, and the others are ahead.
 -- The measure is what is left of the words.
 use Prim.Native.Nat.{_+_, _-_, _≤_}
-use Rattle.loader_graph.proofs.Writing.{Writing}
+use Rattle.load_graph.proofs.Writing.{Writing}
 use Rattle.load.proofs.Copying.{copy-begins, copy-ends, copy-turn}
 use Rattle.load.proofs.layout.copy.Statement.{statement}
 use Rattle.load.proofs.layout.copy.Tie as tie

@@ -4,7 +4,7 @@ use Rattle.load.proofs.FileLoading.{inputs-few}
 use Rattle.load.proofs.PairLoading.{netlist-inputs, none-asked, pair-built, pair-outputs, room-left}
 use Rattle.load.proofs.pair.build_pair.Statement.{statement}
 use Rattle.load.proofs.pair.build_pair.Tie as tie
-use Rattle.load.specs.File.{netlistOf}
+use Rattle.load.specs.code.File.{netlistOf}
 use borrow.Author.Needs.{needs}
 use native.Mathlib.Omega.{arith}
 

@@ -1,6 +1,6 @@
 use Rattle.compare_model.specs.Compare.{Given}
 use Rattle.report_pair.proofs.ComparedLaws.{compared-next, compared-stored, same-room}
-use Rattle.report_pair.specs.Slices.{asked}
+use Rattle.report_pair.specs.code.Slices.{asked}
 use Rattle.table.specs.Table.{inputsOf}
 use borrow.Author.Needs.{needs}
 use lib.Seq.{length-take-le}

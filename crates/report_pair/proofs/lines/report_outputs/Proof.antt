@@ -6,7 +6,7 @@ use Rattle.report_pair.proofs.ComparedLaws.{same-room}
 use Rattle.report_pair.proofs.PrintingLaws.{Printing, here-ready, line-room, printing-end, printing-length, printing-more, printing-none}
 use Rattle.report_pair.proofs.lines.report_outputs.Statement.{statement}
 use Rattle.report_pair.proofs.lines.report_outputs.Tie as tie
-use Rattle.report_pair.specs.Slices.{asked}
+use Rattle.report_pair.specs.code.Slices.{asked}
 use mathlib.Core.Path.{_∙_, ap, refl}
 use native.Mathlib.Omega.{arith}
 

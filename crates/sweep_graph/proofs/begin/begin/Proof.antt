@@ -3,7 +3,7 @@
 use Prim.Native.Nat.{ℕ}
 use Rattle.sweep_graph.proofs.begin.begin.Statement.{statement}
 use Rattle.sweep_graph.proofs.begin.begin.Tie as tie
-use Rattle.sweep_graph.specs.Stages.{stageWord, withStage}
+use Rattle.sweep_graph.specs.code.Stages.{stageWord, withStage}
 use Rattle.sweep_model.specs.State.{opened}
 use borrow.Author.Needs.{needs}
 use mathlib.Core.List.{List}

@@ -2,7 +2,7 @@
 -- Each return rewrites with what led to it.
 use Rattle.sweep_graph.proofs.pick.lesser.Statement.{statement}
 use Rattle.sweep_graph.proofs.pick.lesser.Tie as tie
-use Rattle.sweep_graph.specs.Pick.{lesser}
+use Rattle.sweep_graph.specs.code.Pick.{lesser}
 use borrow.Author.Needs.{needs}
 use borrow.Author.Tests.{le-leb, lt-leb}
 use mathlib.Core.Path.{refl}

@@ -4,7 +4,7 @@ use Prim.Native.Nat.{ℕ, _-_, _≤_}
 use Rattle.sweep_graph.proofs.PickLaws.{least-is, least-more}
 use Rattle.sweep_graph.proofs.pick.pick.Statement.{statement}
 use Rattle.sweep_graph.proofs.pick.pick.Tie as tie
-use Rattle.sweep_graph.specs.Pick.{leastFrom}
+use Rattle.sweep_graph.specs.code.Pick.{leastFrom}
 use borrow.Author.Needs.{needs}
 use mathlib.Core.Path.{_≡_, _∙_, ap, refl, sym}
 use native.Mathlib.Omega.{arith}

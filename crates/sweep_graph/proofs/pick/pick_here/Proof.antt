@@ -2,7 +2,7 @@
 -- Each return rewrites with that.
 use Rattle.sweep_graph.proofs.pick.pick_here.Statement.{statement}
 use Rattle.sweep_graph.proofs.pick.pick_here.Tie as tie
-use Rattle.sweep_graph.specs.Pick.{pickHere}
+use Rattle.sweep_graph.specs.code.Pick.{pickHere}
 use Rattle.sweep_graph.specs.declared.pick.Picked.the-variants.{At}
 use borrow.Author.Needs.{needs}
 use mathlib.Core.Path.{_∙_, ap, refl, sym}

@@ -3,7 +3,7 @@
 use Rattle.sweep_graph.proofs.StageLaws.{has-word}
 use Rattle.sweep_graph.proofs.stage.has_diagram.Statement.{statement}
 use Rattle.sweep_graph.proofs.stage.has_diagram.Tie as tie
-use Rattle.sweep_graph.specs.Stages.{wordStage}
+use Rattle.sweep_graph.specs.code.Stages.{wordStage}
 use Rattle.sweep_model.specs.State.{has?}
 use mathlib.Core.Path.{refl}
 

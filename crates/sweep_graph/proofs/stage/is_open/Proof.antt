@@ -3,7 +3,7 @@
 use Rattle.sweep_graph.proofs.StageLaws.{open-word}
 use Rattle.sweep_graph.proofs.stage.is_open.Statement.{statement}
 use Rattle.sweep_graph.proofs.stage.is_open.Tie as tie
-use Rattle.sweep_graph.specs.Stages.{wordStage}
+use Rattle.sweep_graph.specs.code.Stages.{wordStage}
 use Rattle.sweep_model.specs.State.{open?}
 use mathlib.Core.Path.{refl}
 

@@ -3,7 +3,7 @@
 use Rattle.sweep_graph.proofs.StageLaws.{waits-word}
 use Rattle.sweep_graph.proofs.stage.waits.Statement.{statement}
 use Rattle.sweep_graph.proofs.stage.waits.Tie as tie
-use Rattle.sweep_graph.specs.Stages.{wordStage}
+use Rattle.sweep_graph.specs.code.Stages.{wordStage}
 use Rattle.sweep_model.specs.State.{waits?}
 use mathlib.Core.Path.{refl}
 

@@ -3,7 +3,7 @@
 use Rattle.sweep_graph.proofs.StageLaws.{wake-open, wake-shut}
 use Rattle.sweep_graph.proofs.stage.woken.Statement.{statement}
 use Rattle.sweep_graph.proofs.stage.woken.Tie as tie
-use Rattle.sweep_graph.specs.Stages.{wordStage}
+use Rattle.sweep_graph.specs.code.Stages.{wordStage}
 use borrow.Author.Needs.{needs}
 use mathlib.Core.Path.{_∙_, sym}
 

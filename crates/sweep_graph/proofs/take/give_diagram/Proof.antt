@@ -5,7 +5,7 @@ use Rattle.bdd.specs.Diagram.{edge}
 use Rattle.sweep_graph.proofs.TakeLaws.{given-words, has-read}
 use Rattle.sweep_graph.proofs.take.give_diagram.Statement.{statement}
 use Rattle.sweep_graph.proofs.take.give_diagram.Tie as tie
-use Rattle.sweep_graph.specs.Takes.{takenDiagrams}
+use Rattle.sweep_graph.specs.code.Takes.{takenDiagrams}
 use borrow.Author.Needs.{needs}
 use mathlib.Core.Path.{refl}
 use native.Mathlib.Omega.{arith}

@@ -4,7 +4,7 @@ use Rattle.aig.specs.Literal.{vertexOf}
 use Rattle.sweep_graph.proofs.TakeLaws.{handed-diagram, handed-nothing, handed-turn, has-read}
 use Rattle.sweep_graph.proofs.take.hand_over.Statement.{statement}
 use Rattle.sweep_graph.proofs.take.hand_over.Tie as tie
-use Rattle.sweep_graph.specs.Takes.{held}
+use Rattle.sweep_graph.specs.code.Takes.{held}
 use borrow.Author.Needs.{needs}
 use mathlib.Core.Path.{refl}
 

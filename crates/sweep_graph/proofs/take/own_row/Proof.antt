@@ -1,7 +1,7 @@
 -- The constant's row is not stored, and has no owner; no loop.
 -- Any other is set by the call.
-use Rattle.bdd.specs.Owners.{withOwner}
-use Rattle.bdd.specs.Rows.{put}
+use Rattle.bdd.specs.code.Owners.{withOwner}
+use Rattle.bdd.specs.code.Rows.{put}
 use Rattle.sweep_graph.proofs.take.own_row.Statement.{statement}
 use Rattle.sweep_graph.proofs.take.own_row.Tie as tie
 use borrow.Author.Needs.{needs}

@@ -3,8 +3,8 @@
 use Rattle.sweep_graph.proofs.TakeLaws.{merged-read, passed-gone, passed-unmerged, took, unmerged-read}
 use Rattle.sweep_graph.proofs.take.take_at.Statement.{statement}
 use Rattle.sweep_graph.proofs.take.take_at.Tie as tie
-use Rattle.sweep_graph.specs.Stages.{wordStage}
-use Rattle.sweep_graph.specs.Takes.{held}
+use Rattle.sweep_graph.specs.code.Stages.{wordStage}
+use Rattle.sweep_graph.specs.code.Takes.{held}
 use Rattle.sweep_model.specs.State.{gone?}
 use borrow.Author.Needs.{needs}
 use mathlib.Core.Path.{_∙_, ap, sym}

@@ -4,7 +4,7 @@ use Prim.Native.Nat.{_-_}
 use Rattle.sweep_graph.proofs.TakeLaws.{Taking, taking-begins, taking-ends, taking-goes-on, taking-turns}
 use Rattle.sweep_graph.proofs.take.takes.Statement.{statement}
 use Rattle.sweep_graph.proofs.take.takes.Tie as tie
-use Rattle.sweep_graph.specs.Takes.{held}
+use Rattle.sweep_graph.specs.code.Takes.{held}
 use borrow.Author.Needs.{needs}
 use native.Mathlib.Omega.{arith}
 

@@ -3,7 +3,7 @@
 use Rattle.sweep_graph.proofs.TakeLaws.{woken-words}
 use Rattle.sweep_graph.proofs.take.wake_at.Statement.{statement}
 use Rattle.sweep_graph.proofs.take.wake_at.Tie as tie
-use Rattle.sweep_graph.specs.Takes.{wakeWords}
+use Rattle.sweep_graph.specs.code.Takes.{wakeWords}
 use borrow.Author.Needs.{needs}
 use borrow.Author.Tests.{eq-eqb}
 use mathlib.Core.Path.{refl}

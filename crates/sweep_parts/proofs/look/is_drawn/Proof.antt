@@ -2,7 +2,7 @@
 -- Each call gives an equation.
 use Prim.Native.Nat.{ℕ}
 use Rattle.aig.specs.Lookup.{firstWord}
-use Rattle.sweep_graph.specs.Stages.{wordStage}
+use Rattle.sweep_graph.specs.code.Stages.{wordStage}
 use Rattle.sweep_model.specs.State.{has?}
 use Rattle.sweep_parts.proofs.look.is_drawn.Statement.{statement}
 use Rattle.sweep_parts.proofs.look.is_drawn.Tie as tie

@@ -3,7 +3,7 @@
 use Rattle.aig.specs.declared.literal.Literal.{Literal}
 use Rattle.sweep_parts.proofs.look.look.Statement.{statement}
 use Rattle.sweep_parts.proofs.look.look.Tie as tie
-use Rattle.sweep_parts.specs.Look.{seenAt}
+use Rattle.sweep_parts.specs.code.Look.{seenAt}
 use borrow.Author.Needs.{needs}
 use mathlib.Core.Path.{_∙_, ap₂}
 

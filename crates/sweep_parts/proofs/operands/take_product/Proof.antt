@@ -3,7 +3,7 @@
 use Rattle.sweep_parts.proofs.OperandLaws.{operands-asked, operands-multiplied}
 use Rattle.sweep_parts.proofs.operands.take_product.Statement.{statement}
 use Rattle.sweep_parts.proofs.operands.take_product.Tie as tie
-use Rattle.sweep_parts.specs.Look.{referenceOf}
+use Rattle.sweep_parts.specs.code.Look.{referenceOf}
 use borrow.Author.Needs.{needs}
 use mathlib.Core.Path.{_∙_, ap}
 

@@ -1,10 +1,10 @@
 -- What `make` answers decides; no loop.
 -- One law for each answer.
-use Rattle.bdd.specs.Unique.{MadeAt, MadeFull}
+use Rattle.bdd.specs.code.Unique.{MadeAt, MadeFull}
 use Rattle.sweep_start.proofs.InputLaws.{made-small, made-within, row-asked}
 use Rattle.sweep_start.proofs.inputs.give_row.Statement.{statement}
 use Rattle.sweep_start.proofs.inputs.give_row.Tie as tie
-use Rattle.sweep_start.specs.Inputs.{levelOf}
+use Rattle.sweep_start.specs.code.Inputs.{levelOf}
 use borrow.Author.Needs.{needs}
 use mathlib.Core.Path.{refl}
 use native.Mathlib.Omega.{arith}

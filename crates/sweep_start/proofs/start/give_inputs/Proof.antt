@@ -1,7 +1,7 @@
 -- Whether every input got its row decides; no loop.
 -- One law for each answer, for all functions and entry rows.
-use Rattle.sweep_parts.specs.Meet.{board}
-use Rattle.sweep_parts.specs.Sheets.{sheets}
+use Rattle.sweep_parts.specs.code.Meet.{board}
+use Rattle.sweep_parts.specs.code.Sheets.{sheets}
 use Rattle.sweep_start.proofs.BeginModel.{given-goes, given-looks, given-short, giving-framed}
 use Rattle.sweep_start.proofs.start.give_inputs.Statement.{statement}
 use Rattle.sweep_start.proofs.start.give_inputs.Tie as tie

@@ -1,9 +1,9 @@
 -- Invariant: the last scan has come to its end, and the model goes on from there as it went from the first turn.
 -- The measure is the turns left.
-use Rattle.sweep_graph.specs.Stages.{stagesOf}
+use Rattle.sweep_graph.specs.code.Stages.{stagesOf}
 use Rattle.sweep_model.specs.Sweep.{turnsLeft}
-use Rattle.sweep_parts.specs.Meet.{board}
-use Rattle.sweep_parts.specs.Sheets.{sheets}
+use Rattle.sweep_parts.specs.code.Meet.{board}
+use Rattle.sweep_parts.specs.code.Sheets.{sheets}
 use Rattle.sweep_turn.proofs.GoModel.{Turning, pick-asks, turn-asks, turns-begin, turns-end, turns-fall, turns-go-on, turns-stop}
 use Rattle.sweep_turn.proofs.turn.go.Statement.{statement}
 use Rattle.sweep_turn.proofs.turn.go.Tie as tie

@@ -1,7 +1,7 @@
 -- Whether the vertex is ready decides; no loop.
 -- One law for each way, in every scene.
-use Rattle.sweep_parts.specs.Meet.{board}
-use Rattle.sweep_parts.specs.Sheets.{sheets}
+use Rattle.sweep_parts.specs.code.Meet.{board}
+use Rattle.sweep_parts.specs.code.Sheets.{sheets}
 use Rattle.sweep_turn.proofs.VisitModel.{ready-asked, ready-due, visit-passes, visit-went}
 use Rattle.sweep_turn.proofs.visit.visit.Statement.{statement}
 use Rattle.sweep_turn.proofs.visit.visit.Tie as tie

@@ -1,0 +1,47 @@
+-- What the parts of a comparison that is not refused give each other: the sweep's task, how it ended, and what follows it.
+use Prim.Native.Nat.{_*_, _≤_, ℕ}
+use Rattle.bdd.specs.code.Store.{Store}
+use Rattle.compare_model.specs.Compare.{Given, answerTo, maxRows, maxSteps, overFront, problemOf}
+use Rattle.compare_model.specs.declared.Limits.{Limits as Asked}
+use Rattle.compare_parts.specs.code.Code.{limitsOf}
+use Rattle.sweep_parts.specs.code.Ending.{Refers, verdictOf}
+use Rattle.sweep_parts.specs.code.Words.{posed}
+use Rattle.sweep_parts.specs.declared.end.Ended.{Ended}
+use Rattle.sweep_parts.specs.declared.task.Task.{Task}
+use Rattle.table.specs.Accepted.{Accepted}
+use Rattle.table.specs.Table.{functionsOf, graphOf, inputsOf, verticesOf}
+use lib.ListN.{length, take}
+use mathlib.Core.List.{List}
+use mathlib.Core.Path.{_≡_}
+
+-- A task is that of a table's output: with the functions of the table's vertices it poses the comparison's problem.
+pub record Posed (table : List ℕ) (output : ℕ) (limits : Asked) (t : Task) : Type 0 where
+  pub problem : posed t (functionsOf (graphOf table)) ≡ problemOf table output (limitsOf limits)
+  pub count : t .count ≡ verticesOf table
+  pub inputs : t .inputs ≡ inputsOf table
+  pub size : t .size ≡ limits .size
+  pub rows : t .rows ≡ limits .rows
+  pub steps : t .steps ≡ limits .steps
+
+-- The sweep has ended: the model's answer, by what the slices hold then.
+pub record Ran (g : Given) (pairs rows marks : List ℕ) (e : Ended) : Type 0 where
+  pub verdict : answerTo g .verdict ≡ verdictOf rows (inputsOf (g .table)) (e .end)
+  pub rows-left : answerTo g .left .rows ≡ take (2 * verticesOf (g .table)) pairs
+  pub long : 2 * verticesOf (g .table) ≤ length pairs
+  pub marks-left : overFront (answerTo g .left .marks) (g .marks) ≡ marks
+  pub rows-used : length (answerTo g .left .book .store) ≡ e .used
+  pub steps-taken : answerTo g .left .book .steps ≡ e .steps
+  pub store : Store rows (g .limits .rows) (e .used)
+  pub refers : Refers rows (e .used) (inputsOf (g .table)) (e .end)
+  pub within : e .used ≤ maxRows
+  pub counted : e .steps ≤ maxSteps
+
+-- What finishing needs.
+pub record Finishes (table pairs rows : List ℕ) (limit : ℕ) (e : Ended) (setting : ℕ) : Type 0 where
+  pub accepted : Accepted table
+  pub long : 2 * verticesOf table ≤ length pairs
+  pub room : inputsOf table ≤ setting
+  pub store : Store rows limit (e .used)
+  pub refers : Refers rows (e .used) (inputsOf table) (e .end)
+  pub within : e .used ≤ maxRows
+  pub counted : e .steps ≤ maxSteps

@@ -1,0 +1,3 @@
+pub mod Decision
+pub mod File
+pub mod Pair

@@ -1,0 +1,59 @@
+-- A file's lines as they are passed: the gate or the output of the line that is due.
+use Prim.Native.Nat.{_*_, _+_, _<_, _≤_, ℕ}
+use Rattle.aig.specs.Literal.{vertexOf}
+use Rattle.load_model.specs.Build.{Traced, askGates}
+use Rattle.netlist.specs.Check.{andsOf, gatesIn, netlistIn, outputsIn}
+use Rattle.netlist.specs.Meaning.{andCount}
+use Rattle.netlist.specs.Netlist.{AllBelow, Downward, Gate, Netlist, gateRecord}
+use Rattle.netlist.specs.Records.{fileRecords, recordOf}
+use Rattle.netlist.specs.declared.check.Summary.{Summary}
+use Rattle.netlist.specs.declared.records.Record.the-variants.{Output}
+use Rattle.table.specs.Limits.{maxAnds}
+use Rattle.text.specs.Split.{upTo}
+use lib.ListN.{drop, length}
+use mathlib.Core.List.{List, _++_, map}
+use mathlib.Core.Path.{_≡_}
+
+-- The netlist that an accepted file holds.
+unfoldable pub netlistOf : List ℕ → Summary → Netlist
+netlistOf file s = netlistIn (s .inputs) (fileRecords file)
+
+-- The line that starts at a place is a gate's, the gate is the file's vertex v, and there is room for its ANDs.
+pub record GateLine (file : List ℕ) (at v asked : ℕ) : Type 0 where
+  pub gate : Gate
+  pub inside : at ≤ length file
+  pub this : recordOf (upTo 10 (drop at file)) ≡ gateRecord gate
+  pub first-below : gate .p < 2 * v
+  pub second-below : gate .q < 2 * v
+  pub room : asked + andsOf (gate .op) ≤ maxAnds
+
+-- The line that starts at a place is an output's, and its reference names one of n vertices.
+pub record OutputLine (file : List ℕ) (at n : ℕ) : Type 0 where
+  pub reference : ℕ
+  pub inside : at ≤ length file
+  pub this : recordOf (upTo 10 (drop at file)) ≡ Output reference
+  pub below : vertexOf reference < n
+
+-- The lines from a place on are those of as many gates as are counted, the first of them the file's vertex v, and those of outputs.
+pub record GatesAhead (file : List ℕ) (at count v asked : ℕ) : Type 0 where
+  pub gates : List Gate
+  pub outputs : List ℕ
+  pub inside : at ≤ length file
+  pub records : fileRecords (drop at file) ≡ map gateRecord gates ++ map Output outputs
+  pub counted : length gates ≡ count
+  pub downward : Downward v gates
+  pub room : asked + andCount gates ≤ maxAnds
+
+-- The gates from a place on are asked for, and the outputs after them are ahead.
+pub record GatesPassed (file : List ℕ) (start : ℕ) (before after : Traced) (at : ℕ) : Type 0 where
+  pub asked : after ≡ askGates before (gatesIn (fileRecords (drop start file)))
+  pub inside : at ≤ length file
+  pub records : fileRecords (drop at file) ≡ map Output (outputsIn (fileRecords (drop start file)))
+
+-- The lines from a place on are those of as many outputs as are counted, and their references name some of n vertices.
+pub record OutputsAhead (file : List ℕ) (at count n : ℕ) : Type 0 where
+  pub references : List ℕ
+  pub inside : at ≤ length file
+  pub records : fileRecords (drop at file) ≡ map Output references
+  pub counted : length references ≡ count
+  pub below : AllBelow (2 * n) references

@@ -1,0 +1,45 @@
+-- Both files in the lent slices, and the table.
+use Prim.Native.Nat.{_*_, _+_, _-_, _≤_, ℕ}
+use Rattle.load_model.specs.Build.{PairBuilt, buildPair}
+use Rattle.load_model.specs.Load.{maxVertices}
+use Rattle.load.specs.code.File.{netlistOf}
+use Rattle.netlist.specs.code.Accepted.{Holds}
+use Rattle.netlist.specs.declared.check.Summary.{Summary}
+use Rattle.table.specs.Limits.{maxAnds, maxOutputs}
+use lib.ListN.{drop, take}
+use mathlib.Core.List.{List, _++_, _∷_}
+use mathlib.Core.Path.{_≡_}
+
+-- The words of the table: `first` is the first vertex that has a row, and the second file's outputs stand after the most that the first can have.
+abbrev pub wordsOf : List ℕ → List ℕ → ℕ → ℕ → ℕ → List ℕ
+wordsOf pairs outputs first vertices count =
+    (first - 1) ∷ (vertices - first) ∷ count
+    ∷ (take (2 * vertices - 2 * first) (drop (2 * first) pairs) ++ (take count outputs ++ take count (drop maxOutputs outputs)))
+
+-- The table has room for them, and they are there.
+pub record TableRoom (table pairs outputs first vertices count : ℕ) : Type 0 where
+  pub some : 1 ≤ first
+  pub from-first : first ≤ vertices
+  pub rows : 2 * vertices ≤ pairs
+  pub side : count ≤ maxOutputs
+  pub sides : 2 * maxOutputs ≤ outputs
+  pub room : 3 + (2 * vertices - 2 * first) + 2 * count ≤ table
+
+-- Two files with some counts are loaded: they hold netlists, with equally many inputs and outputs, and few enough ANDs.
+pub record Agreed (one two : List ℕ) (s t : Summary) : Type 0 where
+  pub left : Holds one s (netlistOf one s)
+  pub right : Holds two t (netlistOf two t)
+  pub inputs : s .inputs ≡ t .inputs
+  pub outputs : s .outputs ≡ t .outputs
+  pub ands : s .ands + t .ands ≤ maxAnds
+
+-- The working slices are long enough.
+pub record Enough (pairs look literals outputs : ℕ) : Type 0 where
+  pub for-pairs : 2 * maxVertices ≤ pairs
+  pub for-look : 2 * maxVertices ≤ look
+  pub for-literals : 2 * maxVertices ≤ literals
+  pub for-outputs : 2 * maxVertices ≤ outputs
+
+-- The graph of both files.
+abbrev pub pairOf : List ℕ → List ℕ → Summary → Summary → PairBuilt
+pairOf one two s t = buildPair (netlistOf one s) (netlistOf two t)

@@ -1,0 +1,109 @@
+-- The order of load's own tests, in the paper's numbers: each refusal is said where its sentence holds and none of those before it does.
+use Prim.Native.Nat.{_+_, _<_, _≤_, ℕ}
+use Rattle.load_model.specs.Load.{Room, countsDiffer?, loadResult, maxTable, readResult, refused, shortSlice?}
+use Rattle.netlist.specs.Check.{read, readNetlist}
+use Rattle.netlist.specs.Limits.{maxBytes}
+use Rattle.netlist.specs.Meaning.{andCount}
+use Rattle.netlist.specs.Netlist.{Netlist}
+use Rattle.table.specs.Limits.{maxAnds}
+use Rattle.table.specs.Refusals.{firstRefusal}
+use Rattle.truth.proofs.Booleans.{or-left, or-right}
+use borrow.Author.Tests.{eq-eqb, le-ltb, lt-ltb, ne-eqb}
+use lib.Dec.{eqb, ltb}
+use lib.ListN.{length}
+use mathlib.Core.Bool.{Bool, _||_, false, not, true}
+use mathlib.Core.List.{List}
+use mathlib.Core.Logic.{_⊎_, ⊎-elim}
+use mathlib.Core.Path.{_∙_, _≡_, ap, refl}
+
+module _ (left right : List ℕ) (room : Room) where
+  -- "1. The file is longer than 65,536 bytes.", the first file before the second.
+  pub first-long : 65536 < length left → loadResult left right room ≡ refused 1 1 0
+  unfolding loadResult firstRefusal
+  first-long h = rw (lt-ltb maxBytes (length left) h) refl
+
+  pub second-long : length left ≤ 65536 → 65536 < length right → loadResult left right room ≡ refused 1 2 0
+  unfolding loadResult firstRefusal
+  second-long h k = rw (le-ltb maxBytes (length left) h, lt-ltb maxBytes (length right) k) refl
+
+-- Two files of which neither is too long, both read.
+pub record BothRead (left right : List ℕ) (d e : Netlist) : Type 0 where
+  pub first-length : length left ≤ 65536
+  pub second-length : length right ≤ 65536
+  pub first-read : readNetlist left ≡ read d
+  pub second-read : readNetlist right ≡ read e
+
+-- Inputs and outputs of two netlists are equally many.
+pub record SameCounts (d e : Netlist) : Type 0 where
+  pub inputs : d .inputs ≡ e .inputs
+  pub outputs : length (d .outputs) ≡ length (e .outputs)
+
+module _ {left right : List ℕ} {d e : Netlist} (room : Room) (h : BothRead left right d e) where
+  all-read : loadResult left right room ≡ readResult room (read d) (read e)
+  unfolding loadResult firstRefusal
+  all-read = rw (le-ltb maxBytes (length left) (h .first-length), le-ltb maxBytes (length right) (h .second-length), h .first-read, h .second-read) refl
+
+  counts-told : countsDiffer? d e ≡ true → loadResult left right room ≡ refused 7 2 1
+  unfolding readResult firstRefusal
+  counts-told c = all-read ∙ (rw c refl)
+
+  -- "7. Input or output counts differ", whatever else applies.
+  pub inputs-differ : (d .inputs ≡ e .inputs → ⊥) → loadResult left right room ≡ refused 7 2 1
+  unfolding countsDiffer?
+  inputs-differ n =
+      counts-told (or-left (not (eqb (d .inputs) (e .inputs))) (not (eqb (length (d .outputs)) (length (e .outputs)))) (ap not (ne-eqb (d .inputs) (e .inputs) n)))
+
+  pub outputs-differ : (length (d .outputs) ≡ length (e .outputs) → ⊥) → loadResult left right room ≡ refused 7 2 1
+  unfolding countsDiffer?
+  outputs-differ n =
+      counts-told
+      (or-right (not (eqb (d .inputs) (e .inputs))) (not (eqb (length (d .outputs)) (length (e .outputs))))
+      (ap not (ne-eqb (length (d .outputs)) (length (e .outputs)) n)))
+
+  module _ (same : SameCounts d e) where
+    counts-same : countsDiffer? d e ≡ false
+    unfolding countsDiffer?
+    counts-same = rw (eq-eqb (d .inputs) (e .inputs) (same .inputs), eq-eqb (length (d .outputs)) (length (e .outputs)) (same .outputs))
+
+    -- "8. The ANDs exceed 6,144.", whatever the lent slices.
+    pub ands-exceed : 6144 < andCount (d .gates) + andCount (e .gates) → loadResult left right room ≡ refused 8 0 0
+    unfolding readResult firstRefusal
+    ands-exceed a = all-read ∙ (rw (counts-same, lt-ltb maxAnds (andCount (d .gates) + andCount (e .gates)) a) refl)
+
+    module _ (few : andCount (d .gates) + andCount (e .gates) ≤ 6144) where
+      -- "9. The table is shorter than 12,419 words.", whatever the working slices.
+      pub table-short : room .table < 12419 → loadResult left right room ≡ refused 9 0 0
+      unfolding readResult firstRefusal
+      table-short t =
+          all-read
+          ∙ (rw (counts-same, le-ltb maxAnds (andCount (d .gates) + andCount (e .gates)) few, lt-ltb (room .table) maxTable t) refl)
+
+      slice-told : 12419 ≤ room .table → shortSlice? room ≡ true → loadResult left right room ≡ refused 14 0 0
+      unfolding readResult firstRefusal
+      slice-told t s =
+          all-read
+          ∙ (rw (counts-same, le-ltb maxAnds (andCount (d .gates) + andCount (e .gates)) few, le-ltb (room .table) maxTable t, s) refl)
+
+      -- "14. A working slice is short: four slices of 2 words a vertex (load: for 6,209 vertices)"
+      pub slice-short : 12419 ≤ room .table
+          → (room .pairs < 12418) ⊎ (room .look < 12418) ⊎ (room .literals < 12418) ⊎ (room .outputs < 12418)
+          → loadResult left right room ≡ refused 14 0 0
+      unfolding shortSlice?
+      slice-short t s =
+          slice-told t
+          (⊎-elim (λ p. or-left (a || b || c) d′ (or-left (a || b) c (or-left a b (lt-ltb (room .pairs) 12418 p))))
+          (⊎-elim (λ p. or-left (a || b || c) d′ (or-left (a || b) c (or-right a b (lt-ltb (room .look) 12418 p))))
+          (⊎-elim (λ p. or-left (a || b || c) d′ (or-right (a || b) c (lt-ltb (room .literals) 12418 p)))
+          (λ p. or-right (a || b || c) d′ (lt-ltb (room .outputs) 12418 p)))) s)
+        where
+          a : Bool
+          a = ltb (room .pairs) 12418
+
+          b : Bool
+          b = ltb (room .look) 12418
+
+          c : Bool
+          c = ltb (room .literals) 12418
+
+          d′ : Bool
+          d′ = ltb (room .outputs) 12418

@@ -1,0 +1,48 @@
+-- What a good graph says of its rows.
+use Prim.Native.Nat.{_+_, _<_, _≤_, ℕ}
+use Rattle.aig.proofs.FoldLaws.{fold-ordered}
+use Rattle.aig.specs.Fold.{foldOf}
+use Rattle.aig.specs.Literal.{lit}
+use Rattle.aig.specs.Lookup.{Entered, Holds, firstWord, secondWord}
+use Rattle.aig.specs.declared.fold.Folded.the-variants.{Pair}
+use Rattle.load_model.specs.Build.{Build}
+use Rattle.load_model.specs.code.Good.{Good}
+use mathlib.Core.Path.{_≡_, sym, _∙_}
+use native.Mathlib.Decide.{decLt}
+use native.Mathlib.Omega.{arith}
+
+module _ {n : ℕ} {b : Build} (g : Good n b) where
+  -- Every row is its own fold.
+  pub row-own-fold : (v : ℕ) → n < v → v < b .count
+      → foldOf (firstWord (b .words) v) (secondWord (b .words) v) ≡ Pair (lit (firstWord (b .words) v)) (lit (secondWord (b .words) v))
+  row-own-fold v h k = fold-ordered (firstWord (b .words) v) (secondWord (b .words) v) (g .rows v h k .unfolded)
+
+  -- A vertex whose words differ is a made one.
+  pub entered-made : (v : ℕ) → Entered (b .words) v → n < v
+  entered-made v e =
+      elim (decLt n v) [ yes h ↦ h | no h ↦ (let o = g .own v (omega arith) in absurd (e (o .first ∙ sym (o .second)))) ]
+
+  -- A vertex that holds a pair of different words is a made one.
+  pub holds-made : {v p q : ℕ} → Holds (b .words) v p q → p < q → n < v
+  holds-made {v} h l = entered-made v (λ e. omega (arith, h .first, h .second))
+
+  -- "no two rows hold the same pair"
+  pub rows-differ : (u v : ℕ) → u < v → v < b .count → Entered (b .words) v
+      → Holds (b .words) u (firstWord (b .words) v) (secondWord (b .words) v) → ⊥
+  rows-differ u v l k e h = g .rows v (entered-made v e) k .new u l h
+
+  -- So two vertices that hold one pair of different words are one vertex.
+  pub rows-once : (u v : ℕ) → u < b .count → v < b .count → Entered (b .words) u
+      → Holds (b .words) v (firstWord (b .words) u) (secondWord (b .words) u) → u ≡ v
+  rows-once u v hu hv e h =
+      elim (decLt v u) [
+        | yes l ↦ absurd (rows-differ v u l hu e h)
+        | no d ↦ elim (decLt u v) [
+          | yes l ↦ absurd (rows-differ u v l hv (λ f. e (sym (h .first) ∙ f ∙ h .second)) (record { first = sym (h .first); second = sym (h .second) }))
+          | no c ↦ omega arith
+        ]
+      ]
+
+  -- "The ANDs .. counted before any folding" bound the vertices.
+  pub count-bound : b .count ≤ 1 + n + b .asked
+  count-bound = omega (arith, g .tally)

@@ -1,0 +1,5 @@
+pub mod Build
+pub mod Load
+pub mod Loadable
+pub mod Cards
+pub mod code

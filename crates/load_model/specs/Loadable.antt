@@ -1,0 +1,38 @@
+-- The pairs of netlists that are loaded, and the room that is asked of the lent slices, in the paper's own numbers.
+use Prim.Native.Nat.{_+_, _≤_, ℕ}
+use Rattle.load_model.specs.Load.{Room, tallyOf}
+use Rattle.load_model.specs.declared.Tally.{Tally}
+use Rattle.netlist.specs.Check.{read, readNetlist}
+use Rattle.netlist.specs.Meaning.{andCount}
+use Rattle.netlist.specs.Netlist.{Netlist, Within}
+use lib.ListN.{length}
+use mathlib.Core.List.{List}
+use mathlib.Core.Path.{_≡_}
+
+-- Two netlists within the limits, with equally many inputs and outputs, and at most 6,144 ANDs.
+pub record Loadable (d e : Netlist) : Type 0 where
+  pub left : Within d
+  pub right : Within e
+  pub inputs : d .inputs ≡ e .inputs
+  pub outputs : length (d .outputs) ≡ length (e .outputs)
+  pub ands : andCount (d .gates) + andCount (e .gates) ≤ 6144
+
+-- The table and the working slices are long enough: "12,419 words", "2 words a vertex (load: for 6,209 vertices)".
+pub record Enough (room : Room) : Type 0 where
+  pub table : 12419 ≤ room .table
+  pub pairs : 12418 ≤ room .pairs
+  pub look : 12418 ≤ room .look
+  pub literals : 12418 ≤ room .literals
+  pub outputs : 12418 ≤ room .outputs
+
+-- What an accepted load was given: the files of two such netlists, and enough room.
+pub record Loads (left right : List ℕ) (room : Room) (tally : Tally) : Type 0 where
+  pub first : Netlist
+  pub second : Netlist
+  pub first-read : readNetlist left ≡ read first
+  pub second-read : readNetlist right ≡ read second
+  pub first-length : length left ≤ 65536
+  pub second-length : length right ≤ 65536
+  pub loadable : Loadable first second
+  pub enough : Enough room
+  pub counted : tally ≡ tallyOf first second

@@ -1,0 +1,5 @@
+pub mod From
+pub mod Functions
+pub mod Good
+pub mod Grown
+pub mod Valued

@@ -1,9 +1,0 @@
-pub mod Build
-pub mod Load
-pub mod Loadable
-pub mod Cards
-pub mod Good
-pub mod Grown
-pub mod From
-pub mod Valued
-pub mod Functions

@@ -1,0 +1,44 @@
+-- Nothing has to hold from turn to turn.
+-- The measure is how many bytes are left.
+use Prim.Native.Nat.{_-_}
+use Rattle.run_compare.proofs.are_bytes.Statement.{statement}
+use Rattle.run_compare.proofs.are_bytes.Tie as tie
+use borrow.Author.Needs.{needs}
+use lib.ListN.{length}
+
+abbrev Inv-loop : tie.InvT-loop
+Inv-loop bytes byte is-same₀ i₀ is-same i = Unit {0}
+
+abbrev μ-loop : tie.MeasureT-loop
+μ-loop bytes byte is-same₀ i₀ is-same i = length bytes - i
+
+loop-holds : tie.Need-loop-holds Inv-loop μ-loop
+loop-holds c = search needs
+
+shared-slice-read-is-same : tie.Need-shared-slice-read-is-same Inv-loop μ-loop
+shared-slice-read-is-same c = search needs
+
+add-i : tie.Need-add-i Inv-loop μ-loop
+add-i c = search needs
+
+loop-less : tie.Need-loop-less Inv-loop μ-loop
+loop-less c = search needs
+
+loop-again : tie.Need-loop-again Inv-loop μ-loop
+loop-again c = search needs
+
+returns : tie.Need-returns Inv-loop μ-loop
+returns c = search needs
+
+pub are-bytes-spec : {M : Type 1} → statement M
+are-bytes-spec =
+    tie.close
+    (tie.spec
+    Inv-loop
+    μ-loop
+    loop-holds
+    shared-slice-read-is-same
+    add-i
+    loop-less
+    loop-again
+    returns)

@@ -1,0 +1,5 @@
+pub mod Begin
+pub mod Graph
+pub mod Pick
+pub mod Stages
+pub mod Takes

@@ -1,0 +1,9 @@
+pub mod Cause
+pub mod Ending
+pub mod Look
+pub mod Meet
+pub mod Operands
+pub mod Represents
+pub mod Settle
+pub mod Sheets
+pub mod Words

@@ -1,0 +1,90 @@
+-- A product within the size limit, by words.
+use Prim.Native.Nat.{_*_, _-_, _/_, _<_, _≤_, max, min, ℕ}
+use Rattle.aig.specs.Literal.{literalOf}
+use Rattle.aig.specs.Lookup.{firstWord}
+use Rattle.bdd.specs.code.Rows.{ownerAt}
+use Rattle.sweep_graph.specs.code.Graph.{Graph}
+use Rattle.sweep_graph.specs.code.Takes.{Held, Room, held, takesWords}
+use Rattle.sweep_model.specs.Normalise.{mergedInto, normaliseFrom}
+use Rattle.sweep_parts.specs.code.Sheets.{Sheets, drawnAt, sheets}
+use Rattle.sweep_parts.specs.declared.task.Task.{Task}
+use Rattle.sweep_parts.specs.declared.twin.Twin.the-variants.{At, None}
+use Rattle.sweep_parts.specs.declared.twin.Twin.{Twin}
+use lib.Dec.{eqb}
+use lib.ListN.{length}
+use mathlib.Core.Bool.{Bool, cond, not}
+use mathlib.Core.List.{List}
+use mathlib.Core.Logic.{_≢_}
+use mathlib.Core.Path.{_≡_}
+
+-- "If its function or the inverse belongs to a vertex with a diagram": the owner of the row; the constant's row is not stored.
+unfoldable pub twinAt : List ℕ → ℕ → Twin
+twinAt rows reference =
+    cond (eqb (reference / 2) 0) (At 0) (cond (eqb (ownerAt rows (reference / 2)) 0) None (At (ownerAt rows (reference / 2))))
+
+-- Whether the diagrams of two vertices, on one row, are inverse.
+unfoldable pub inverse? : List ℕ → ℕ → ℕ → Bool
+inverse? diagrams v w = not (eqb (firstWord diagrams v) (firstWord diagrams w))
+
+-- The higher of two vertices has the row of one merged into the lower.
+unfoldable pub joined : List ℕ → ℕ → ℕ → Bool → List ℕ
+joined pairs v w inverted = mergedInto pairs (max v w) (literalOf (min v w) inverted)
+
+-- "the two merge and normalising follows"
+abbrev pub mergedPairs : Task → ℕ → ℕ → List ℕ → List ℕ → List ℕ
+mergedPairs t v w pairs diagrams = normaliseFrom (joined pairs v w (inverse? diagrams v w)) (t .first) (t .count - t .first)
+
+-- What newly merged vertices hand over.
+abbrev pub handedIn : Task → List ℕ → Held → Held
+handedIn t pairs h = takesWords pairs (t .first) (t .count - t .first) h
+
+-- What merging v and w needs: a working graph, room, and that they are two of its vertices, the higher a made one.
+pub record MergeAsked (t : Task) (v w : ℕ) (pairs look : List ℕ) (h : Held) : Type 0 where
+  pub graph : Graph (t .first) (t .count) pairs
+  pub room : Room (t .count) h
+  pub look-long : 2 * t .count ≤ length look
+  pub made : t .first ≤ max v w
+  pub first-within : v < t .count
+  pub second-within : w < t .count
+  pub other : w ≢ v
+
+-- The pairs, and the sheets.
+pub record Board : Type 0 where
+  pub pairs : List ℕ
+  pub sheets : Sheets
+
+abbrev pub board : List ℕ → Sheets → Board
+board pairs a = record { pairs = pairs; sheets = a }
+
+-- The sheets as handing over sees them, and with what it left.
+abbrev pub heldOf : Sheets → Held
+heldOf a = held (a .stages) (a .diagrams) (a .rows)
+
+abbrev pub withHeld : Held → Sheets → Sheets
+withHeld h a = sheets (h .diagrams) (h .stages) (h .rows) (a .marks)
+
+-- Vertices v and w merged.
+abbrev pub mergedBoard : Task → ℕ → ℕ → Board → Board
+mergedBoard t v w b =
+    let pairs = mergedPairs t v w (b .pairs) (b .sheets .diagrams) in
+    board pairs (withHeld (handedIn t pairs (heldOf (b .sheets))) (b .sheets))
+
+-- Vertex v gets its diagram, and merges with its twin.
+unfoldable pub metWith : Task → ℕ → Board → Twin → Board
+metWith t v b None = b
+metWith t v b (At w) = mergedBoard t v w b
+
+abbrev pub metBoard : Task → ℕ → ℕ → ℕ → Board → Board
+metBoard t v reference size b =
+    metWith t v (board (b .pairs) (drawnAt v reference size (b .sheets))) (twinAt (b .sheets .rows) reference)
+
+-- What that needs.
+pub record MeetAsked (t : Task) (v reference size : ℕ) (look : List ℕ) (b : Board) : Type 0 where
+  pub graph : Graph (t .first) (t .count) (b .pairs)
+  pub look-long : 2 * t .count ≤ length look
+  pub marks-long : t .count ≤ length (b .sheets .marks)
+  pub room : Room (t .count) (heldOf (b .sheets))
+  pub row-within : reference / 2 * 4 ≤ length (b .sheets .rows)
+  pub made : t .first ≤ v
+  pub within : v < t .count
+  pub twin : (w : ℕ) → twinAt (b .sheets .rows) reference ≡ At w → (w < t .count) × (w ≢ v)

@@ -1,0 +1,26 @@
+-- The slices that a vertex has its words in, and the vertex that gets its diagram.
+use Prim.Native.Nat.{_/_, ℕ}
+use Rattle.aig.specs.Lookup.{withRow}
+use Rattle.bdd.specs.code.Owners.{withOwner}
+use Rattle.sweep_graph.specs.code.Stages.{withStage}
+use lib.ListN.{set}
+use mathlib.Core.List.{List}
+
+-- The words of diagrams, stages and rows and the bytes of marks.
+pub record Sheets : Type 0 where
+  pub diagrams : List ℕ
+  pub stages : List ℕ
+  pub rows : List ℕ
+  pub marks : List ℕ
+
+abbrev pub sheets : List ℕ → List ℕ → List ℕ → List ℕ → Sheets
+sheets diagrams stages rows marks = record { diagrams = diagrams; stages = stages; rows = rows; marks = marks }
+
+-- Vertex v has the diagram of a reference, owns its row, waits, and is marked 1.
+abbrev pub drawnAt : ℕ → ℕ → ℕ → Sheets → Sheets
+drawnAt v reference size a =
+    sheets (withRow (a .diagrams) v reference size) (withStage (a .stages) v 1) (withOwner (a .rows) (reference / 2) v) (set (a .marks) v 1)
+
+-- The sheets with other rows.
+abbrev pub onRows : List ℕ → Sheets → Sheets
+onRows rows a = sheets (a .diagrams) (a .stages) rows (a .marks)
