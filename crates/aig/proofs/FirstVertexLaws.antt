@@ -1,6 +1,6 @@
 -- What the first vertex with a pair is.
-use Prim.Native.Nat.{ℕ, _*_, _+_, suc, zero}
-use Rattle.aig.specs.Lookup.{Agree, First, Holds, Unused, firstVertex, firstWord, hasPair, orHere, secondWord}
+use Prim.Native.Nat.{_*_, _+_, suc, zero, ℕ}
+use Rattle.aig.specs.Lookup.{Agree, First, HoldsRow, Unused, firstVertex, firstWord, hasPair, orHere, secondWord}
 use Rattle.aig.specs.declared.lookup.Found.the-variants.{At, Nothing}
 use Rattle.aig.specs.declared.lookup.Found.{Found}
 use borrow.Author.Tests.{eqb-false, eqb-true}
@@ -18,24 +18,24 @@ Says pairs p q n Nothing = Unused pairs p q n
 
 module _ (pairs : List ℕ) (p q : ℕ) where
   -- The test of one vertex says that it holds the pair, or that it does not.
-  pub has-pair : (v : ℕ) → hasPair pairs v p q ≡ true → Holds pairs v p q
+  pub has-pair : (v : ℕ) → hasPair pairs v p q ≡ true → HoldsRow pairs v p q
   has-pair v e = go (eqb (firstWord pairs v) p) refl e
     where
-      go : (b : Bool) → eqb (firstWord pairs v) p ≡ b → (b && eqb (secondWord pairs v) q) ≡ true → Holds pairs v p q
+      go : (b : Bool) → eqb (firstWord pairs v) p ≡ b → (b && eqb (secondWord pairs v) q) ≡ true → HoldsRow pairs v p q
       go true d e = record { first = eqb-true (firstWord pairs v) p d; second = eqb-true (secondWord pairs v) q e }
       go false d e = let z : _≡_ {A = ℕ} 0 1 = cc in absurd (omega arith)
 
-  pub lacks-pair : (v : ℕ) → hasPair pairs v p q ≡ false → Holds pairs v p q → ⊥
+  pub lacks-pair : (v : ℕ) → hasPair pairs v p q ≡ false → HoldsRow pairs v p q → ⊥
   lacks-pair v e h = go (eqb (firstWord pairs v) p) refl e
     where
       go : (b : Bool) → eqb (firstWord pairs v) p ≡ b → (b && eqb (secondWord pairs v) q) ≡ false → ⊥
       go true d e = eqb-false (secondWord pairs v) q e (h .second)
       go false d e = eqb-false (firstWord pairs v) p d (h .first)
 
-  unused-more : (n : ℕ) → Unused pairs p q n → (Holds pairs n p q → ⊥) → Unused pairs p q (suc n)
+  unused-more : (n : ℕ) → Unused pairs p q n → (HoldsRow pairs n p q → ⊥) → Unused pairs p q (suc n)
   unused-more n none here v below holds =
       elim (ℕ-discrete v n) [
-        | yes e ↦ here (subst (λ (u : ℕ). Holds pairs u p q) e holds)
+        | yes e ↦ here (subst (λ (u : ℕ). HoldsRow pairs u p q) e holds)
         | no d ↦ none v (omega arith) holds
       ]
 

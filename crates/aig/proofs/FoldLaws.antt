@@ -1,5 +1,5 @@
 -- The laws of folding: each rule by itself, and what a folded AND and a pair that is left are.
-use Prim.Native.Nat.{ℕ, _<_, _≤_}
+use Prim.Native.Nat.{_<_, _≤_, ℕ}
 use Rattle.aig.proofs.LiteralLaws.{negate-swap}
 use Rattle.aig.proofs.PairsLaws.{pair-each}
 use Rattle.aig.specs.Fold.{Unfolded, foldOf}

@@ -1,13 +1,13 @@
 -- The look-up's invariant: how it starts and what keeps it.
-use Prim.Native.Nat.{ℕ, _*_, _+_, _<_, _≤_}
+use Prim.Native.Nat.{_*_, _+_, _<_, _≤_, ℕ}
 use Rattle.aig.proofs.FirstVertexLaws.{found-nothing}
-use Rattle.aig.specs.Lookup.{Agree, Entered, Highest, Holds, Indexed, Unused, cleared, entered, firstPlace, firstVertex, firstWord, headOf, nextOf, placeOf, secondWord, withRow}
+use Rattle.aig.specs.Lookup.{Agree, Entered, Highest, HoldsRow, Indexed, Unused, cleared, entered, firstPlace, firstVertex, firstWord, headOf, nextOf, placeOf, secondWord, withRow}
 use Rattle.aig.specs.declared.lookup.Found.the-variants.{Nothing}
 use lib.ListN.{List·getD-append, drop, getD, getD-replicate, length, length-append, length-drop, length-replicate, length-set, replicate, set}
 use lib.Seq.{getD-set-other, getD-set-same}
 use mathlib.Core.List.{List}
 use mathlib.Core.Logic.{_⊎_, inl, inr, ⊎-elim}
-use mathlib.Core.Path.{_≡_, _∙_, ap, ap₂, subst, sym}
+use mathlib.Core.Path.{_∙_, _≡_, ap, ap₂, subst, sym}
 use native.Mathlib.Decide.{ℕ-discrete}
 use native.Mathlib.Nat.{mod-lt}
 use native.Mathlib.Omega.{arith}
@@ -32,11 +32,11 @@ unfolding firstPlace
 first-place-below places p q h = mod-lt _ h
 
 -- A vertex with a pair stands at the pair's place.
-pub holds-place : (pairs : List ℕ) (places v p q : ℕ) → Holds pairs v p q → placeOf pairs places v ≡ firstPlace places p q
+pub holds-place : (pairs : List ℕ) (places v p q : ℕ) → HoldsRow pairs v p q → placeOf pairs places v ≡ firstPlace places p q
 holds-place pairs places v p q h = ap₂ (firstPlace places) (h .first) (h .second)
 
 -- A vertex with a pair of two different words is entered.
-pub holds-entered : (pairs : List ℕ) (v p q : ℕ) → (p ≡ q → ⊥) → Holds pairs v p q → Entered pairs v
+pub holds-entered : (pairs : List ℕ) (v p q : ℕ) → (p ≡ q → ⊥) → HoldsRow pairs v p q → Entered pairs v
 holds-entered pairs v p q apart h e = apart (sym (h .first) ∙ e ∙ h .second)
 
 -- Where two lists of words agree below n, what is said of the vertices below n is said of both.
@@ -50,7 +50,7 @@ module _ (pairs other : List ℕ) (n : ℕ) (agree : Agree pairs other n) where
   same-place : (places v : ℕ) → v < n → placeOf other places v ≡ placeOf pairs places v
   same-place places v lt = ap₂ (firstPlace places) (same-first v lt) (same-second v lt)
 
-  holds-before : (v p q : ℕ) → v < n → Holds other v p q → Holds pairs v p q
+  holds-before : (v p q : ℕ) → v < n → HoldsRow other v p q → HoldsRow pairs v p q
   holds-before v p q lt h = record { first = sym (same-first v lt) ∙ h .first; second = sym (same-second v lt) ∙ h .second }
 
   entered-before : (v : ℕ) → v < n → Entered other v → Entered pairs v
@@ -130,11 +130,11 @@ equal-counts {pairs} {look} {v} {places} h equal lt fits =
     old : (u : ℕ) → Entered pairs u → u < v + 1 → u < v
     old u w l = ⊎-elim (λ (o : u < v). o) (λ (e : u ≡ v). absurd (subst (Entered pairs) e w equal)) (old-or-new u v l)
 
-    others : (a b : ℕ) → Entered pairs a → Holds pairs b (firstWord pairs a) (secondWord pairs a) → Entered pairs b
+    others : (a b : ℕ) → Entered pairs a → HoldsRow pairs b (firstWord pairs a) (secondWord pairs a) → Entered pairs b
     others a b w same = holds-entered pairs b (firstWord pairs a) (secondWord pairs a) w same
 
 module _
-    {pairs look : List ℕ} {v places p q : ℕ} (h : Indexed pairs v look places) (holds : Holds pairs v p q) (apart : p ≡ q → ⊥)
+    {pairs look : List ℕ} {v places p q : ℕ} (h : Indexed pairs v look places) (holds : HoldsRow pairs v p q) (apart : p ≡ q → ⊥)
     (unused : Unused pairs p q v) (positive : 1 ≤ v) (below : v < places) (fits : 2 * v + 1 < length pairs) where
   abbrev own-place : ℕ
   own-place = firstPlace places p q
@@ -177,7 +177,7 @@ module _
   never u lt e d = unused u lt (record { first = e ∙ holds .first; second = d ∙ holds .second })
 
   still-once :
-      (a b : ℕ) → a < v + 1 → b < v + 1 → Entered pairs a → Holds pairs b (firstWord pairs a) (secondWord pairs a) → a ≡ b
+      (a b : ℕ) → a < v + 1 → b < v + 1 → Entered pairs a → HoldsRow pairs b (firstWord pairs a) (secondWord pairs a) → a ≡ b
   still-once a b la lb w same =
       ⊎-elim
       (λ (oa : a < v). ⊎-elim
@@ -214,7 +214,7 @@ module _
 -- The words of one vertex are written.
 module _ (pairs : List ℕ) (v p q : ℕ) (fits : 2 * v + 1 < length pairs) where
   -- It holds them.
-  pub row-holds : Holds (withRow pairs v p q) v p q
+  pub row-holds : HoldsRow (withRow pairs v p q) v p q
   row-holds =
       record {
         first = stored-first pairs (2 * v) (2 * v + 1) p q (omega arith) (omega arith);

@@ -1,5 +1,5 @@
 -- The laws of literals.
-use Prim.Native.Nat.{ℕ, _%_, _*_, _+_, _<_}
+use Prim.Native.Nat.{_%_, _*_, _+_, _<_, ℕ}
 use Rattle.aig.specs.Literal.{inverted?, literalOf, negate, onto, vertexOf}
 use borrow.Author.Tests.{eq-eqb, eqb-false, eqb-true, ne-eqb}
 use mathlib.Core.Bool.{Bool, cond, false, not, true}

@@ -1,13 +1,13 @@
 -- Words that stand for themselves.
 use Prim.Native.Nat.{_*_, _+_, _<_, suc, zero, ℕ}
-use Rattle.aig.specs.Lookup.{Holds, ownWords}
+use Rattle.aig.specs.Lookup.{HoldsRow, ownWords}
 use lib.ListN.{getD, length}
 use mathlib.Core.List.{List, _∷_}
-use mathlib.Core.Path.{_≡_, ap, refl, _∙_}
+use mathlib.Core.Path.{_∙_, _≡_, ap, refl}
 use native.Mathlib.Omega.{arith}
 
 -- Each vertex holds its own literal twice.
-pub own-holds : (v n i : ℕ) → i < n → Holds (ownWords v n) i (2 * (v + i)) (2 * (v + i))
+pub own-holds : (v n i : ℕ) → i < n → HoldsRow (ownWords v n) i (2 * (v + i)) (2 * (v + i))
 unfolding ownWords
 own-holds v zero i h = absurd (omega arith)
 own-holds v (suc n) zero h = record { first = omega arith; second = omega arith }

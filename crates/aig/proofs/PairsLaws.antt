@@ -1,6 +1,6 @@
 -- The laws of the same two operands in either order.
 use Rattle.aig.specs.Pairs.{SamePair, crossed, straight}
-use mathlib.Core.Path.{_≡_, _∙_, ap, ap₂}
+use mathlib.Core.Path.{_∙_, _≡_, ap, ap₂}
 
 module _ {A : Type 0} where
   -- Two pairs that are the same as a third are the same.

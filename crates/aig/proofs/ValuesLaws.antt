@@ -12,7 +12,7 @@ use borrow.Author.Tests.{eqb-false, eqb-true}
 use lib.ListN.{List·getD-append, List·getD-eq-default, getD, length}
 use mathlib.Core.Bool.{Bool, _&&_, cond, false, not, true}
 use mathlib.Core.List.{List, _++_}
-use mathlib.Core.Path.{_≡_, _∙_, ap, refl, subst, sym}
+use mathlib.Core.Path.{_∙_, _≡_, ap, refl, subst, sym}
 use native.Mathlib.Decide.{decLt}
 use native.Mathlib.Omega.{arith}
 

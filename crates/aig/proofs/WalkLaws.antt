@@ -1,12 +1,12 @@
 -- What a walk along a chain of the look-up has shown.
-use Prim.Native.Nat.{ℕ, _<_, _≤_}
+use Prim.Native.Nat.{_<_, _≤_, ℕ}
 use Rattle.aig.proofs.FirstVertexLaws.{first-at, first-nothing, has-pair, lacks-pair}
 use Rattle.aig.proofs.IndexLaws.{first-place-below, holds-entered, holds-place}
-use Rattle.aig.specs.Lookup.{Entered, Highest, Holds, Indexed, Unused, firstPlace, firstVertex, hasPair, headOf, nextOf, placeOf}
+use Rattle.aig.specs.Lookup.{Entered, Highest, HoldsRow, Indexed, Unused, firstPlace, firstVertex, hasPair, headOf, nextOf, placeOf}
 use Rattle.aig.specs.declared.lookup.Found.the-variants.{At, Nothing}
 use mathlib.Core.Bool.{false, true}
 use mathlib.Core.List.{List}
-use mathlib.Core.Path.{_≡_, _∙_, subst, sym}
+use mathlib.Core.Path.{_∙_, _≡_, subst, sym}
 use native.Mathlib.Decide.{decLt, ℕ-discrete}
 use native.Mathlib.Omega.{arith}
 
@@ -15,7 +15,7 @@ pub record Walk (pairs : List ℕ) (count places p q e : ℕ) : Type 0 where
   pub within : 1 ≤ e → e < count
   pub is-entered : 1 ≤ e → Entered pairs e
   pub placed : 1 ≤ e → placeOf pairs places e ≡ firstPlace places p q
-  pub passed : (v : ℕ) → e < v → v < count → Holds pairs v p q → ⊥
+  pub passed : (v : ℕ) → e < v → v < count → HoldsRow pairs v p q → ⊥
 
 module _ {pairs : List ℕ} {count : ℕ} {look : List ℕ} {places p q : ℕ} (h : Indexed pairs count look places) (apart : p ≡ q → ⊥) where
   -- It starts at the head of the pair's place.
@@ -46,12 +46,12 @@ module _ {pairs : List ℕ} {count : ℕ} {look : List ℕ} {places p q : ℕ} (
       next : Highest pairs places (placeOf pairs places e) e (nextOf look places e)
       next = h .nexts e (w .within one) (w .is-entered one)
 
-      passed : (v : ℕ) → nextOf look places e < v → v < count → Holds pairs v p q → ⊥
+      passed : (v : ℕ) → nextOf look places e < v → v < count → HoldsRow pairs v p q → ⊥
       passed v above below same =
           elim (decLt e v) [
             | yes l ↦ w .passed v l below same
             | no l ↦ elim (ℕ-discrete v e) [
-              | yes d ↦ lacks-pair pairs p q e lacks (subst (λ (u : ℕ). Holds pairs u p q) d same)
+              | yes d ↦ lacks-pair pairs p q e lacks (subst (λ (u : ℕ). HoldsRow pairs u p q) d same)
               | no d ↦
                   next .none-above v above (omega arith) (holds-entered pairs v p q apart same)
                   (holds-place pairs places v p q same ∙ sym (w .placed one))
@@ -71,7 +71,7 @@ module _ {pairs : List ℕ} {count : ℕ} {look : List ℕ} {places p q : ℕ} (
   walk-finds e one w has =
       sym (first-at pairs p q count e (record { within = w .within one; holds = here; unused-before = earlier }))
     where
-      here : Holds pairs e p q
+      here : HoldsRow pairs e p q
       here = has-pair pairs p q e has
 
       earlier : Unused pairs p q e
@@ -91,5 +91,5 @@ module _ {pairs : List ℕ} {count : ℕ} {look : List ℕ} {places p q : ℕ} (
             | yes l ↦ w .passed v l lt same
             | no l ↦
                 (let d : v ≡ 0 = omega arith in
-                holds-entered pairs 0 p q apart (subst (λ (u : ℕ). Holds pairs u p q) d same) (h .constant (omega arith)))
+                holds-entered pairs 0 p q apart (subst (λ (u : ℕ). HoldsRow pairs u p q) d same) (h .constant (omega arith)))
           ]

@@ -1,5 +1,5 @@
 -- What an AND of two literals comes to before any vertex is looked for.
-use Prim.Native.Nat.{ℕ, _<_, _≤_}
+use Prim.Native.Nat.{_<_, _≤_, ℕ}
 use Rattle.aig.specs.Literal.{lit, negate}
 use Rattle.aig.specs.declared.fold.Folded.the-variants.{Pair, To}
 use Rattle.aig.specs.declared.fold.Folded.{Folded}

@@ -1,5 +1,5 @@
 -- Literals as numbers. The paper calls a literal a reference.
-use Prim.Native.Nat.{ℕ, _%_, _*_, _+_, _-_, _/_}
+use Prim.Native.Nat.{_%_, _*_, _+_, _-_, _/_, ℕ}
 use Rattle.aig.specs.declared.literal.Literal.{Literal}
 use lib.Dec.{eqb}
 use mathlib.Core.Bool.{Bool, cond}

@@ -2,7 +2,7 @@
 --
 -- `pairs` has two words a vertex. Inputs and merged vertices hold equal words, which are never entered and never asked for. `look` has a head for each of its
 -- places, then a next word for each vertex. A head or a next word is a vertex number, 0 for none: vertex 0 is the constant and is never entered.
-use Prim.Native.Nat.{ℕ, _%_, _*_, _+_, _<_, _^_, _≤_, suc, zero}
+use Prim.Native.Nat.{_%_, _*_, _+_, _<_, _^_, _≤_, suc, zero, ℕ}
 use Rattle.aig.specs.declared.lookup.Found.the-variants.{At, Nothing}
 use Rattle.aig.specs.declared.lookup.Found.{Found}
 use lib.Dec.{eqb}
@@ -64,18 +64,18 @@ entered look places v p q =
     set (set look (places + v) (headOf look (firstPlace places p q))) (firstPlace places p q) v
 
 -- The words of vertex v are p and q.
-pub record Holds (pairs : List ℕ) (v p q : ℕ) : Type 0 where
+pub record HoldsRow (pairs : List ℕ) (v p q : ℕ) : Type 0 where
   pub first : firstWord pairs v ≡ p
   pub second : secondWord pairs v ≡ q
 
 -- No vertex below n has the words p and q.
 abbrev pub Unused : List ℕ → ℕ → ℕ → ℕ → Type 0
-Unused pairs p q n = (v : ℕ) → v < n → Holds pairs v p q → ⊥
+Unused pairs p q n = (v : ℕ) → v < n → HoldsRow pairs v p q → ⊥
 
 -- Vertex v is the first below n with the words p and q.
 pub record First (pairs : List ℕ) (p q n v : ℕ) : Type 0 where
   pub within : v < n
-  pub holds : Holds pairs v p q
+  pub holds : HoldsRow pairs v p q
   pub unused-before : Unused pairs p q v
 
 -- Vertex v has an entry: its words differ.
@@ -100,7 +100,7 @@ pub record Indexed (pairs : List ℕ) (count : ℕ) (look : List ℕ) (places : 
   pub look-fits : 2 * places ≤ length look
   pub pairs-fit : 2 * count ≤ length pairs
   pub constant : 1 ≤ count → firstWord pairs 0 ≡ secondWord pairs 0
-  pub once : (u v : ℕ) → u < count → v < count → Entered pairs u → Holds pairs v (firstWord pairs u) (secondWord pairs u) → u ≡ v
+  pub once : (u v : ℕ) → u < count → v < count → Entered pairs u → HoldsRow pairs v (firstWord pairs u) (secondWord pairs u) → u ≡ v
   pub heads : (place : ℕ) → place < places → Highest pairs places place count (headOf look place)
   pub nexts : (v : ℕ) → v < count → Entered pairs v → Highest pairs places (placeOf pairs places v) v (nextOf look places v)
 

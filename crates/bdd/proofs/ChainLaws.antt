@@ -3,7 +3,7 @@ use Prim.Native.Nat.{_*_, _+_, _-_, _/_, _<_, _≤_, suc, zero, ℕ}
 use Rattle.bdd.proofs.RowsLaws.{child-sees, head-sees, high-packed, length-put, level-packed, level-sees, low-packed, mark-constant, mark-packed, mark-sees, next-sees, owner-packed, owner-sees, put-row, put-same, put-word, word-first, word-second}
 use Rattle.bdd.specs.Diagram.{Canonical, Row}
 use Rattle.bdd.specs.code.Rows.{RADIX, child, headAt, highAt, levelAt, lowAt, markAt, nextAt, ownerAt, put, wordAt}
-use Rattle.bdd.specs.code.Store.{Agree, Chains, Kept, Room, Store, bucket, bucketOf}
+use Rattle.bdd.specs.code.Store.{Agree, Chains, Kept, Store, StoreRoom, bucket, bucketOf}
 use Rattle.bdd.specs.code.Unique.{Cleared, GivenBack, Grown, Is, NewRow, added, emptied, returned, unlinked}
 use lib.ListN.{length}
 use mathlib.Core.Bool.{Bool, false, true}
@@ -461,7 +461,7 @@ module _ (before : List ℕ) (limit used kept : ℕ) where
         long = ap length e ∙ length-put now 3 (suc (bucketOf now limit i)) (nextAt now i) ∙ R .long;
       }
 
-  pub returning-room : Store before limit used → (now : List ℕ) (i : ℕ) → Returning before now limit used kept i → Room now limit i
+  pub returning-room : Store before limit used → (now : List ℕ) (i : ℕ) → Returning before now limit used kept i → StoreRoom now limit i
   returning-room S now i R = record { used = omega (arith, R .most, S .room .used); small = S .room .small; long = omega (arith, R .long, S .room .long) }
 
   pub returning-ends : Store before limit used → (now : List ℕ) (i : ℕ) → Returning before now limit used kept i → i ≤ kept → GivenBack before now limit used kept
@@ -504,7 +504,7 @@ emptied-heads s (suc k) fits b lt =
       | no d ↦ put-row (emptied s k) 3 (suc k) 0 3 (suc b) (omega arith) (omega arith) (omega arith) ∙ emptied-heads s k (omega arith) b (omega arith)
     ]
 
-pub cleared : (s : List ℕ) (limit : ℕ) → Room s limit 0 → (t : List ℕ) → t ≡ emptied s limit → Cleared s t limit
+pub cleared : (s : List ℕ) (limit : ℕ) → StoreRoom s limit 0 → (t : List ℕ) → t ≡ emptied s limit → Cleared s t limit
 cleared s limit R t e =
     record {
       exact = e;

@@ -10,7 +10,7 @@ use crate::rows::put_word;
 ghost use Prim.Native.Nat.{_*_, _+_, _-_, _<_, _^_, _≤_};
 ghost use Rattle.bdd.specs.Diagram.{Reference};
 ghost use Rattle.bdd.specs.code.Rows.{MARK};
-ghost use Rattle.bdd.specs.code.Store.{Room, Store, bucket};
+ghost use Rattle.bdd.specs.code.Store.{Store, StoreRoom, bucket};
 ghost use Rattle.bdd.specs.code.Unique.{Cleared, Found, GivenBack, Is, Makes, NewRow, added, unlinked};
 ghost use lib.ListN.{length};
 ghost use mathlib.Core.Bool.{false, true};
@@ -65,7 +65,7 @@ fn find(rows: &[u32], used: usize, limit: usize, level: usize, low: usize, high:
 
 // Writes row used + 1 and makes it the head of its bucket.
 fn add(rows: &mut [u32], used: usize, limit: usize, level: usize, low: usize, high: usize)
-    requires room { ⌜ Room (now rows) limit (used + 1) ⌝ }
+    requires room { ⌜ StoreRoom (now rows) limit (used + 1) ⌝ }
     requires row { ⌜ NewRow (now rows) used level low high ⌝ }
     ensures { λ _. ⌜ now (rows .exit) ≡ added (now (rows .entry)) limit used level low high ⌝ }
 {
@@ -119,7 +119,7 @@ pub fn make(
 
 // An empty store for a row limit.
 pub fn clear(rows: &mut [u32], limit: usize)
-    requires { ⌜ Room (now rows) limit 0 ⌝ }
+    requires { ⌜ StoreRoom (now rows) limit 0 ⌝ }
     ensures { λ _. ⌜ Cleared (now (rows .entry)) (now (rows .exit)) limit ⌝ }
 {
     let mut i = 0;
@@ -131,7 +131,7 @@ pub fn clear(rows: &mut [u32], limit: usize)
 
 // The bucket of row i has the next row of i as its head.
 fn unlink(rows: &mut [u32], limit: usize, i: usize)
-    requires { ⌜ (1 ≤ i) × Room (now rows) limit i ⌝ }
+    requires { ⌜ (1 ≤ i) × StoreRoom (now rows) limit i ⌝ }
     ensures { λ _. ⌜ now (rows .exit) ≡ unlinked (now (rows .entry)) limit i ⌝ }
 {
     let b = bucket_of(limit, level_of(rows, i), low_of(rows, i), high_of(rows, i));

@@ -1,7 +1,7 @@
 -- Demand 1 for a comparison: a good call is not refused.
 use Prim.Native.Nat.{_*_, ℕ}
 use Rattle.compare_model.proofs.RefusalLaws.{compared-answered}
-use Rattle.compare_model.specs.Compare.{Given, Room, answerTo, answered, beyond?, callTests, compared, outside?, refusalOf, saidBy, shortSlice?, sliceWords}
+use Rattle.compare_model.specs.Compare.{CompareRoom, Given, answerTo, answered, beyond?, callTests, compared, outside?, refusalOf, saidBy, shortSlice?, sliceWords}
 use Rattle.compare_model.specs.Demand1.{Answers, Good, says-different, says-equal, says-idle, says-rows, says-size, says-steps}
 use Rattle.compare_model.specs.Passed.{Enough, LimitsWithin, Passed, Within}
 use Rattle.sweep_model.specs.State.{Limits}
@@ -27,7 +27,7 @@ unfolding beyond?
 limits-inside {l} h = rw (limit-inside (h .size), limit-inside (h .rows), limit-inside (h .steps))
 
 -- Test 14 does not apply to slices that are long enough.
-slices-suffice : {vertices rows : ℕ} {r : Room} {marks : ℕ} → Enough vertices rows r marks → shortSlice? vertices rows r marks ≡ false
+slices-suffice : {vertices rows : ℕ} {r : CompareRoom} {marks : ℕ} → Enough vertices rows r marks → shortSlice? vertices rows r marks ≡ false
 unfolding shortSlice?
 slices-suffice {vertices} {rows} {r} {marks} h =
     rw (

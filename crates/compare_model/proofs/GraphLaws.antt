@@ -1,7 +1,7 @@
 -- The rows and the problem that a table gives the sweep.
 use Prim.Native.Nat.{_*_, _+_, _-_, _<_, _≤_, ℕ}
 use Rattle.aig.proofs.OwnLaws.{length-own, own-holds}
-use Rattle.aig.specs.Lookup.{Holds, firstWord, ownWords, secondWord}
+use Rattle.aig.specs.Lookup.{HoldsRow, firstWord, ownWords, secondWord}
 use Rattle.aig.specs.Values.{literalValue}
 use Rattle.compare_model.specs.Compare.{graphWords, problemOf}
 use Rattle.sweep_model.specs.Fit.{Fit, vertexCount}
@@ -40,7 +40,7 @@ module _ (table : List ℕ) where
       omega (arith, length-append (ownWords 0 first) rowWords, length-own 0 first)
 
   -- A first vertex holds its own literal twice.
-  pub own-row : (v : ℕ) → v < 1 + inputsOf table → Holds (graphWords table) v (2 * v) (2 * v)
+  pub own-row : (v : ℕ) → v < 1 + inputsOf table → HoldsRow (graphWords table) v (2 * v) (2 * v)
   unfolding graphWords
   own-row v h =
       let o = own-holds 0 first v h in
@@ -52,7 +52,7 @@ module _ (table : List ℕ) where
 
   -- A made vertex has the words of its row.
   pub made-row : (i : ℕ) → i < madeOf table
-      → Holds (graphWords table) (1 + inputsOf table + i) (getD table (3 + 2 * i) 0) (getD table (3 + 2 * i + 1) 0)
+      → HoldsRow (graphWords table) (1 + inputsOf table + i) (getD table (3 + 2 * i) 0) (getD table (3 + 2 * i + 1) 0)
   unfolding graphWords
   made-row i h =
       record {

@@ -1,7 +1,7 @@
 -- The table that a comparison leaves: the same header, length and words after the graph, the sweep's rows, and every output as what it became.
 use Prim.Native.Nat.{_%_, _*_, _+_, _/_, _<_, _≤_, ℕ}
 use Rattle.aig.proofs.OwnLaws.{length-own, own-holds}
-use Rattle.aig.specs.Lookup.{Holds, firstWord, ownWords, secondWord}
+use Rattle.aig.specs.Lookup.{HoldsRow, firstWord, ownWords, secondWord}
 use Rattle.compare_model.proofs.GraphLaws.{count-vertices, fits, length-graph, literalIn, made-row}
 use Rattle.compare_model.specs.Compare.{graphWords, outputsLeft, problemOf, tableLeft}
 use Rattle.sweep_model.proofs.Rows.{resolve-first, resolve-function, resolve-within}
@@ -20,7 +20,7 @@ use native.Mathlib.Decide.{ℕ-discrete}
 use native.Mathlib.Omega.{arith}
 
 -- Two lists of words that agree vertex by vertex agree word by word.
-words-agree : (rows other : List ℕ) (n : ℕ) → ((v : ℕ) → v < n → Holds other v (firstWord rows v) (secondWord rows v)) → (i : ℕ) → i < 2 * n
+words-agree : (rows other : List ℕ) (n : ℕ) → ((v : ℕ) → v < n → HoldsRow other v (firstWord rows v) (secondWord rows v)) → (i : ℕ) → i < 2 * n
     → getD other i 0 ≡ getD rows i 0
 words-agree rows other n same i h =
     let w = same (i / 2) (omega arith) in
@@ -91,7 +91,7 @@ module _ (table : List ℕ) (whole : promised (madeOf table) (outputsOf table) �
   outputs-became = rw (made-kept, outputs-kept, after-rows) (take-at references _ (2 * outputsOf table) length-references)
 
   -- Its rows are the given ones, where these begin with the first vertices' own words.
-  rows-left : ((v : ℕ) → v < 1 + inputsOf table → Holds rows v (2 * v) (2 * v)) → graphWords (tableLeft table rows) ≡ rows
+  rows-left : ((v : ℕ) → v < 1 + inputsOf table → HoldsRow rows v (2 * v) (2 * v)) → graphWords (tableLeft table rows) ≡ rows
   unfolding graphWords
   rows-left own =
       rw (inputs-kept, made-kept, after-header, take-at made _ (2 * madeOf table) length-made)

@@ -1,6 +1,6 @@
 -- A comparison is refused, or every bound holds and the sweep answers.
 use Prim.Native.Nat.{_*_, ℕ}
-use Rattle.compare_model.specs.Compare.{Given, Room, answerTo, answered, beyond?, compared, maxRows, maxSteps, outside?, refusalOf, shortSlice?, sliceWords, turnedBack}
+use Rattle.compare_model.specs.Compare.{CompareRoom, Given, answerTo, answered, beyond?, compared, maxRows, maxSteps, outside?, refusalOf, shortSlice?, sliceWords, turnedBack}
 use Rattle.compare_model.specs.Passed.{Enough, LimitsWithin, Passed, Within}
 use Rattle.sweep_model.specs.State.{Limits}
 use Rattle.table.proofs.AcceptedLaws.{accepted}
@@ -33,7 +33,7 @@ limits-within l h =
       steps = limit-within maxSteps (l .steps) (p .1);
     }
 
-slices-enough : (vertices rows : ℕ) (r : Room) (marks : ℕ) → shortSlice? vertices rows r marks ≡ false → Enough vertices rows r marks
+slices-enough : (vertices rows : ℕ) (r : CompareRoom) (marks : ℕ) → shortSlice? vertices rows r marks ≡ false → Enough vertices rows r marks
 unfolding shortSlice?
 slices-enough vertices rows r marks h =
     let p = neither (pairs || look || diagrams || stages || diagram-rows) (ltb marks vertices) h in

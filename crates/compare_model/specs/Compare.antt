@@ -4,7 +4,7 @@ use Rattle.aig.specs.Lookup.{ownWords}
 use Rattle.compare_model.specs.Said.{Said, undecidedBy}
 use Rattle.sweep_model.specs.Normalise.{resolve}
 use Rattle.sweep_model.specs.State.{Limits, Problem}
-use Rattle.sweep_model.specs.Sweep.{Answer, Verdict, different, equal, sweep, undecided}
+use Rattle.sweep_model.specs.Sweep.{Result, Verdict, different, equal, sweep, undecided}
 use Rattle.table.specs.Refusals.{Test, firstRefusal}
 use Rattle.table.specs.Table.{functionsOf, graphOf, inputsOf, madeOf, outputWords, outputsOf, sideOutputs, tableTests, verticesOf}
 use Rattle.truth.specs.Truth.{Setting}
@@ -14,7 +14,7 @@ use mathlib.Core.Bool.{Bool, _||_, cond, not}
 use mathlib.Core.List.{List, [], _++_, _∷_, map}
 
 -- The lengths of the working slices: four of words, and the rows.
-pub record Room : Type 0 where
+pub record CompareRoom : Type 0 where
   pub pairs : ℕ
   pub look : ℕ
   pub diagrams : ℕ
@@ -26,7 +26,7 @@ pub record Given : Type 0 where
   pub table : List ℕ
   pub output : ℕ
   pub limits : Limits
-  pub room : Room
+  pub room : CompareRoom
   pub marks : List ℕ
   pub setting : List ℕ
 
@@ -56,14 +56,14 @@ abbrev pub sliceWords : ℕ → ℕ
 sliceWords vertices = 2 * vertices
 
 -- "14. A working slice is short: four slices of 2 words a vertex .., compare also 4 words a row of the limit and the marks"
-unfoldable pub shortSlice? : ℕ → ℕ → Room → ℕ → Bool
+unfoldable pub shortSlice? : ℕ → ℕ → CompareRoom → ℕ → Bool
 shortSlice? vertices rows r marks =
     ltb (r .pairs) (sliceWords vertices) || ltb (r .look) (sliceWords vertices) || ltb (r .diagrams) (sliceWords vertices)
     || ltb (r .stages) (sliceWords vertices) || ltb (r .rows) (4 * rows) || ltb marks vertices
 
 -- "12. .. the output number is too high.", "15. The setting slice is shorter than the inputs.": the tests after those of the table, by
 -- the lengths of the slices, the marks and the setting.
-abbrev pub callTests : List ℕ → ℕ → Limits → Room → ℕ → ℕ → List (Test ℕ)
+abbrev pub callTests : List ℕ → ℕ → Limits → CompareRoom → ℕ → ℕ → List (Test ℕ)
 callTests table output limits room marks setting =
     record { answer = 12; applies = leb (outputsOf table) output }
     ∷ record { answer = 13; applies = beyond? limits }
@@ -95,7 +95,7 @@ problemOf table output limits =
 unfoldable pub graphWords : List ℕ → List ℕ
 graphWords table = ownWords 0 (1 + inputsOf table) ++ take (2 * madeOf table) (drop 3 table)
 
-unfoldable pub answerTo : Given → Answer
+unfoldable pub answerTo : Given → Result
 answerTo g = sweep (problemOf (g .table) (g .output) (g .limits)) (graphWords (g .table))
 
 -- The front of a list replaced.
@@ -127,7 +127,7 @@ saidBy (different s) rows steps = Said.different rows steps
 saidBy (undecided x) rows steps = undecidedBy x rows steps
 
 -- What a comparison that is not refused leaves: "Marks, one byte a vertex, all written at a reply, later bytes unchanged".
-unfoldable pub answered : Given → Answer → Left
+unfoldable pub answered : Given → Result → Left
 answered g a =
     record {
       reply = saidBy (a .verdict) (length (a .left .book .store)) (a .left .book .steps);

@@ -1,6 +1,6 @@
 -- What is known of a comparison that is not refused.
 use Prim.Native.Nat.{_*_, _<_, _≤_, ℕ}
-use Rattle.compare_model.specs.Compare.{Given, Room, maxRows, maxSteps, sliceWords}
+use Rattle.compare_model.specs.Compare.{CompareRoom, Given, maxRows, maxSteps, sliceWords}
 use Rattle.sweep_model.specs.State.{Limits}
 use Rattle.table.specs.Accepted.{Accepted}
 use Rattle.table.specs.Table.{inputsOf, outputsOf, verticesOf}
@@ -18,7 +18,7 @@ pub record LimitsWithin (l : Limits) : Type 0 where
   pub steps : Within maxSteps (l .steps)
 
 -- The working slices and the marks are long enough.
-pub record Enough (vertices rows : ℕ) (r : Room) (marks : ℕ) : Type 0 where
+pub record Enough (vertices rows : ℕ) (r : CompareRoom) (marks : ℕ) : Type 0 where
   pub pairs : sliceWords vertices ≤ r .pairs
   pub look : sliceWords vertices ≤ r .look
   pub diagrams : sliceWords vertices ≤ r .diagrams

@@ -5,7 +5,7 @@ use Rattle.compare_model.specs.Compare.{Given, answerTo, answered, callTests, c
 use Rattle.compare_model.specs.Passed.{Passed}
 use Rattle.compare_model.specs.Said.{Said, saidOf}
 use Rattle.compare_parts.specs.code.Code.{left}
-use Rattle.comparer.specs.code.Work.{Finishes, Ran}
+use Rattle.comparer.specs.code.Work.{Finishes, SweepRan}
 use Rattle.sweep_parts.specs.code.Ending.{verdictOf}
 use Rattle.sweep_parts.specs.declared.end.Ended.{Ended}
 use Rattle.sweep_model.specs.Sweep.{Verdict}
@@ -32,7 +32,7 @@ module _ (g : Given) where
   turned-back n e h = rw e (sym (compared-refused g (λ z. h (e ∙ z))))
 
   -- The sweep has ended.
-  module _ (pairs rows marks : List ℕ) (e : Ended) (ran : Ran g pairs rows marks e) where
+  module _ (pairs rows marks : List ℕ) (e : Ended) (ran : SweepRan g pairs rows marks e) where
     -- What finishing needs.
     pub finishes : Passed g → Finishes (g .table) pairs rows (g .limits .rows) e (length (g .setting))
     finishes p =

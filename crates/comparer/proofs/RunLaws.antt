@@ -6,17 +6,17 @@ use Rattle.compare_model.specs.Compare.{answerTo, graphWords, overFront, proble
 use Rattle.compare_model.specs.Passed.{Enough, LimitsWithin}
 use Rattle.compare_model.specs.declared.Limits.{Limits}
 use Rattle.compare_parts.specs.code.Code.{given, limitsOf, roomOfLists}
-use Rattle.comparer.specs.code.Work.{Posed, Ran}
+use Rattle.comparer.specs.code.Work.{Posed, SweepRan}
 use Rattle.sweep_parts.specs.code.Ending.{verdictOf}
-use Rattle.sweep_parts.specs.code.Sheets.{sheets}
-use Rattle.sweep_parts.specs.code.Meet.{Board, board}
-use Rattle.sweep_start.specs.code.Start.{Poses, SweepAsked}
-use Rattle.sweep.specs.code.Sweep.{Answers, Sweeps}
+use Rattle.sweep_parts.specs.code.Arrays.{arrays}
+use Rattle.sweep_parts.specs.code.Meet.{Workspace, workspace}
+use Rattle.sweep_start.specs.code.Start.{HasFunctions, SweepAsked}
+use Rattle.sweep.specs.code.Sweep.{SweepAnswers, Sweeps}
 use Rattle.sweep_parts.specs.declared.end.Ended.{Ended}
 use Rattle.sweep_parts.specs.declared.task.Task.{Task}
 use Rattle.sweep_model.proofs.Kept.{sweep-steady}
 use Rattle.sweep_model.specs.Fit.{Fit}
-use Rattle.sweep_model.specs.Sweep.{Answer, sweep}
+use Rattle.sweep_model.specs.Sweep.{Result, sweep}
 use Rattle.table.specs.Accepted.{Accepted}
 use Rattle.table.specs.Table.{functionsOf, graphOf, outputsOf, verticesOf}
 use Rattle.truth.specs.Truth.{Truth}
@@ -48,9 +48,9 @@ module _ (table : List ℕ) (output : ℕ) (limits : Limits) (accepted : Accepte
   table-fits = fits table output (limitsOf limits) accepted known
 
   -- They are the rows of a graph whose vertices have these functions.
-  poses : Poses t functions (take (2 * t .count) lent)
+  has-functions : HasFunctions t functions (take (2 * t .count) lent)
   unfolding problemOf
-  poses = record { fit = rw (entry-words, task .problem) table-fits; count = count-vertices table output (limitsOf limits) ∙ sym (task .count) }
+  has-functions = record { fit = rw (entry-words, task .problem) table-fits; count = count-vertices table output (limitsOf limits) ∙ sym (task .count) }
 
   -- The other slices, long enough.
   module _ (pairs look diagrams stages rows marks : List ℕ)
@@ -60,15 +60,15 @@ module _ (table : List ℕ) (output : ℕ) (limits : Limits) (accepted : Accepte
     lent-marks = length-take-le (t .count) marks (omega (arith, task .count, room .marked))
 
     -- What the sweep is lent.
-    abbrev pub lentBoard : Board
-    lentBoard = board (take (2 * t .count) lent) (sheets diagrams stages rows (take (t .count) marks))
+    abbrev pub lentWorkspace : Workspace
+    lentWorkspace = workspace (take (2 * t .count) lent) (arrays diagrams stages rows (take (t .count) marks))
 
     -- The sweep can be asked.
-    pub asked : SweepAsked t look lentBoard
+    pub asked : SweepAsked t look lentWorkspace
     asked =
         record {
           functions = functions;
-          poses = poses;
+          has-functions = poses;
           few = omega (arith, task .count, accepted .formed .inputs, accepted .formed .made);
           narrow = omega (arith, task .inputs, accepted .formed .inputs);
           modest = omega (arith, task .size, within .size .bounded);
@@ -82,19 +82,19 @@ module _ (table : List ℕ) (output : ℕ) (limits : Limits) (accepted : Accepte
         }
 
     -- The sweep has ended.
-    module _ (setting : List ℕ) (after : Board) (e : Ended) (sweeps : Sweeps t lentBoard after e)
-        (kept : length (after .sheets .marks) ≡ length (take (t .count) marks)) where
+    module _ (setting : List ℕ) (after : Workspace) (e : Ended) (sweeps : Sweeps t lentWorkspace after e)
+        (kept : length (after .arrays .marks) ≡ length (take (t .count) marks)) where
       -- The model's answer.
-      abbrev answer : Answer
+      abbrev answer : Result
       answer = sweep (problemOf table output (limitsOf limits)) (graphWords table)
 
       -- It is that of the end and of what the slices hold.
-      answers : Answers t functions answer after e
+      answers : SweepAnswers t functions answer after e
       answers = rw (task .problem, entry-words) at (sweeps functions poses)
 
       -- The rows that it leaves are the pairs,
       pairs-left : answer .left .rows ≡ after .pairs
-      pairs-left = ap (λ (a : Answer). a .left .rows) (answers .answer)
+      pairs-left = ap (λ (a : Result). a .left .rows) (answers .answer)
 
       -- as many as were lent;
       pairs-long : length (after .pairs) ≡ 2 * t .count
@@ -105,21 +105,21 @@ module _ (table : List ℕ) (output : ℕ) (limits : Limits) (accepted : Accepte
           ∙ ap (λ (n : ℕ). 2 * n) (sym (task .count))
 
       -- the marks are those lent.
-      marks-left : answer .left .marks ≡ after .sheets .marks
-      marks-left = ap (λ (a : Answer). a .left .marks) (answers .answer) ∙ take-all (t .count) (after .sheets .marks) (omega (arith, kept, lent-marks))
+      marks-left : answer .left .marks ≡ after .arrays .marks
+      marks-left = ap (λ (a : Result). a .left .marks) (answers .answer) ∙ take-all (t .count) (after .arrays .marks) (omega (arith, kept, lent-marks))
 
       -- What the end says of the comparison.
-      pub ran : Ran (given table output limits pairs look diagrams stages rows marks setting) (after .pairs ++ drop (2 * t .count) lent) (after .sheets .rows)
-          (after .sheets .marks ++ drop (t .count) marks) e
+      pub ran : SweepRan (given table output limits pairs look diagrams stages rows marks setting) (after .pairs ++ drop (2 * t .count) lent) (after .arrays .rows)
+          (after .arrays .marks ++ drop (t .count) marks) e
       unfolding answerTo
       ran =
           record {
-            verdict = ap (λ (a : Answer). a .verdict) (answers .answer) ∙ ap (λ (n : ℕ). verdictOf (after .sheets .rows) n (e .end)) (task .inputs);
+            verdict = ap (λ (a : Result). a .verdict) (answers .answer) ∙ ap (λ (n : ℕ). verdictOf (after .arrays .rows) n (e .end)) (task .inputs);
             rows-left = pairs-left ∙ sym (rw (← task .count) (take-at (after .pairs) _ (2 * t .count) pairs-long));
             long = omega (arith, length-append (after .pairs) (drop (2 * t .count) lent), pairs-long, task .count);
             marks-left = rw (marks-left, kept, lent-marks) refl;
-            rows-used = ap (λ (a : Answer). length (a .left .book .store)) (answers .answer) ∙ store-length (after .sheets .rows) (e .used);
-            steps-taken = ap (λ (a : Answer). a .left .book .steps) (answers .answer);
+            rows-used = ap (λ (a : Result). length (a .left .book .store)) (answers .answer) ∙ store-length (after .arrays .rows) (e .used);
+            steps-taken = ap (λ (a : Result). a .left .book .steps) (answers .answer);
             store = rw (task .rows) at (answers .closed .store);
             refers = rw (task .inputs) at (answers .closed .refers);
             within = omega (arith, answers .closed .store .room .used, task .rows, within .rows .bounded);

@@ -13,7 +13,7 @@ ghost use Rattle.compare_model.specs.Compare.{saidBy, settingLeft, tableLeft};
 ghost use Rattle.compare_model.specs.Passed.{Enough, LimitsWithin};
 ghost use Rattle.compare_model.specs.Said.{saidOf};
 ghost use Rattle.compare_parts.specs.code.Code.{given, limitsOf, roomOfLists};
-ghost use Rattle.comparer.specs.code.Work.{Finishes, Ran};
+ghost use Rattle.comparer.specs.code.Work.{Finishes, SweepRan};
 ghost use Rattle.sweep_parts.specs.code.Ending.{verdictOf};
 ghost use Rattle.table.specs.Accepted.{Accepted};
 ghost use Rattle.table.specs.Table.{inputsOf, outputsOf, verticesOf};
@@ -37,7 +37,7 @@ pub fn run(
     requires known { ⌜ output < outputsOf (now table) ⌝ }
     requires within { ⌜ LimitsWithin (limitsOf limits) ⌝ }
     requires room { ⌜ Enough (verticesOf (now table)) (limits .rows) (roomOfLists (now pairs) (now look) (now diagrams) (now stages) (now rows)) (length (now marks)) ⌝ }
-    ensures { λ r. ⌜ ((setting : List ℕ) → Ran (given (now (table .entry)) output limits (now (pairs .entry)) (now (look .entry)) (now (diagrams .entry)) (now (stages .entry)) (now (rows .entry)) (now (marks .entry)) setting) (now (pairs .exit)) (now (rows .exit)) (now (marks .exit)) r) ⌝ }
+    ensures { λ r. ⌜ ((setting : List ℕ) → SweepRan (given (now (table .entry)) output limits (now (pairs .entry)) (now (look .entry)) (now (diagrams .entry)) (now (stages .entry)) (now (rows .entry)) (now (marks .entry)) setting) (now (pairs .exit)) (now (rows .exit)) (now (marks .exit)) r) ⌝ }
 {
     copy_in(table, pairs);
     let task = task_of(table, output, limits);

@@ -13,7 +13,7 @@ use Rattle.netlist.specs.Meaning.{andCount}
 use Rattle.netlist.specs.Records.{fieldsRecord, fileRecords, operationOf, recordOf, recordsOf, unended}
 use Rattle.sweep_model.specs.Normalise.{foldedRow, foundRow, normalise, normaliseFrom, normaliseRow, resolve, takeAt, takesFrom, wake, wakeAt}
 use Rattle.sweep_model.specs.State.{gone?, has?}
-use Rattle.sweep_model.specs.Sweep.{andThen, answerOf, begin, look, lookAt, start, sweep}
+use Rattle.sweep_model.specs.Sweep.{andThen, begin, look, lookAt, resultOf, start, sweep}
 use Rattle.table.specs.Refusals.{firstRefusal}
 use Rattle.table.specs.Table.{allBelow?, beyondLimits?, downward?, firstFunctions, functionsOf, graphOf, inputsFrom, malformed?, outOfOrder?, outputWords, pairs, rowBelow?, rowsOf, sideOutputs}
 use Rattle.table.specs.Values.{vertexValues}
@@ -34,7 +34,7 @@ unfolding dueAfter below? checkFile checkFrom due? finish firstRefusal formed? g
 tables = record { and-or = refl; inverse = refl; constants = refl }
 
 replying : Replying
-unfolding answerTo answered beyond? compared graphWords outputsLeft outside? problemOf refusalOf settingBytes settingLeft slices? tableLeft turnedBack outputWords pairs rowsOf sideOutputs malformed? beyondLimits? outOfOrder? downward? allBelow? rowBelow? graphOf functionsOf firstFunctions inputsFrom firstRefusal vertexValues conj invert constantly input sweep answerOf start look lookAt andThen begin normalise normaliseFrom normaliseRow foldedRow foundRow resolve takesFrom takeAt wakeAt wake has? gone? saidBy foldOf firstVertex ownWords
+unfolding answerTo answered beyond? compared graphWords outputsLeft outside? problemOf refusalOf settingBytes settingLeft slices? tableLeft turnedBack outputWords pairs rowsOf sideOutputs malformed? beyondLimits? outOfOrder? downward? allBelow? rowBelow? graphOf functionsOf firstFunctions inputsFrom firstRefusal vertexValues conj invert constantly input sweep resultOf start look lookAt andThen begin normalise normaliseFrom normaliseRow foldedRow foundRow resolve takesFrom takeAt wakeAt wake has? gone? saidBy foldOf firstVertex ownWords
 replying =
     record {
       and-or-reply = rw (tables .and-or) refl;

@@ -10,7 +10,7 @@ use Rattle.demands.specs.Claims.{ReplyKept}
 use Rattle.demands.specs.Demand3.{Call, Demand3, Each, Holds, Ran}
 use Rattle.load_model.proofs.LoadLaws.{load-only}
 use Rattle.load_model.proofs.TableLaws.{table-accepted}
-use Rattle.load_model.specs.Load.{Room, accepted, loadResult, tableOf}
+use Rattle.load_model.specs.Load.{LoadRoom, accepted, loadResult, tableOf}
 use Rattle.load_model.specs.Loadable.{Loadable}
 use Rattle.load_model.specs.declared.Tally.{Tally}
 use Rattle.netlist.specs.Check.{read, readNetlist}
@@ -20,7 +20,7 @@ use mathlib.Core.Path.{_∙_, _≡_, subst₂}
 use native.Mathlib.Omega.{arith}
 
 -- The files of an accepted load.
-pub loaded-files : (left right : List ℕ) (room : Room) (tally : Tally) (d e : Netlist) → loadResult left right room ≡ accepted tally
+pub loaded-files : (left right : List ℕ) (room : LoadRoom) (tally : Tally) (d e : Netlist) → loadResult left right room ≡ accepted tally
     → readNetlist left ≡ read d → readNetlist right ≡ read e → Loadable d e
 loaded-files left right room tally d e a l r =
     let h = load-only left right room tally a in

@@ -4,7 +4,7 @@ use Rattle.compare_model.specs.Compare.{refusalOf}
 use Rattle.compare_model.specs.Said.{Said}
 use Rattle.demands.specs.Claims.{Agree, TooLarge, TooManyParts, TooManySteps}
 use Rattle.demands.specs.Demand3.{Call, Each, Ran}
-use Rattle.load_model.specs.Load.{Room, accepted, loadResult, tableOf}
+use Rattle.load_model.specs.Load.{LoadRoom, accepted, loadResult, tableOf}
 use Rattle.load_model.specs.declared.Tally.{Tally}
 use Rattle.netlist.specs.Check.{read, readNetlist}
 use Rattle.netlist.specs.Netlist.{Netlist}
@@ -25,7 +25,7 @@ pub data Decided (d e : Netlist) (k : ℕ) : Said → Type 0 where
 
 abbrev pub Complete : Type 0
 Complete =
-    (left right : List ℕ) (room : Room) (tally : Tally) (d e : Netlist) (old last : List ℕ) (calls : List Call)
+    (left right : List ℕ) (room : LoadRoom) (tally : Tally) (d e : Netlist) (old last : List ℕ) (calls : List Call)
     → loadResult left right room ≡ accepted tally → readNetlist left ≡ read d → readNetlist right ≡ read e
     → Ran (tableOf d e old) calls last
     → Each (λ c. refusalOf (c .given) ≡ 0 → Suffice d e (c .given .limits) → Decided d e (c .given .output) (c .left .reply)) calls

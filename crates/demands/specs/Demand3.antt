@@ -3,7 +3,7 @@ use Prim.Native.Nat.{_<_, ℕ}
 use Rattle.compare_model.specs.Claims.{MarksKept, ReplySays, problemBy}
 use Rattle.compare_model.specs.Compare.{Given, Left, compared, refusalOf}
 use Rattle.demands.specs.Claims.{ReplyKept, sideValue}
-use Rattle.load_model.specs.Load.{Room, accepted, loadResult, tableOf}
+use Rattle.load_model.specs.Load.{LoadRoom, accepted, loadResult, tableOf}
 use Rattle.load_model.specs.declared.Tally.{Tally}
 use Rattle.netlist.specs.Check.{read, readNetlist}
 use Rattle.netlist.specs.Netlist.{Netlist}
@@ -42,7 +42,7 @@ pub record Holds (d e : Netlist) (loaded : List ℕ) (calls : List Call) (last :
 
 abbrev pub Demand3 : Type 0
 Demand3 =
-    (left right : List ℕ) (room : Room) (tally : Tally) (d e : Netlist) (old last : List ℕ) (calls : List Call)
+    (left right : List ℕ) (room : LoadRoom) (tally : Tally) (d e : Netlist) (old last : List ℕ) (calls : List Call)
     → loadResult left right room ≡ accepted tally → readNetlist left ≡ read d → readNetlist right ≡ read e
     → Ran (tableOf d e old) calls last
     → Holds d e (tableOf d e old) calls last

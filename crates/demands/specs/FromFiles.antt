@@ -3,7 +3,7 @@ use Prim.Native.Nat.{ℕ}
 use Rattle.compare_model.specs.Compare.{refusalOf}
 use Rattle.demands.specs.Complete.{Decided, Suffice}
 use Rattle.demands.specs.Demand3.{Call, Each, Holds, Ran}
-use Rattle.load_model.specs.Load.{Room, answerOf, loadResult, tableAfter}
+use Rattle.load_model.specs.Load.{LoadRoom, answerOf, loadResult, tableAfter}
 use Rattle.load_model.specs.declared.Loaded.the-variants.{Accepted}
 use Rattle.load_model.specs.declared.Loaded.{Loaded}
 use Rattle.load_model.specs.declared.Tally.{Tally}
@@ -25,7 +25,7 @@ pub record Demanded (left right loaded : List ℕ) (calls : List Call) (last : L
 -- The premises are the contract of load, that its result was Accepted, and that each call of the list keeps the contract of compare.
 abbrev pub FromFiles : Type 0
 FromFiles =
-    (left right old loaded last : List ℕ) (room : Room) (result : Loaded) (tally : Tally) (calls : List Call)
+    (left right old loaded last : List ℕ) (room : LoadRoom) (result : Loaded) (tally : Tally) (calls : List Call)
     → answerOf result ≡ loadResult left right room → loaded ≡ tableAfter (answerOf result) (readNetlist left) (readNetlist right) old
     → result ≡ Accepted tally → Ran loaded calls last
     → Demanded left right loaded calls last

@@ -7,7 +7,7 @@ use Rattle.text.specs.Decimal.{Stored, written}
 use lib.ListN.{drop, drop-of-length-le, getD, length, length-append, length-set, set}
 use lib.Seq.{drop-cons}
 use mathlib.Core.List.{List, [], _++_, _∷_, append-assoc}
-use mathlib.Core.Path.{_≡_, ap, refl, sym, _∙_}
+use mathlib.Core.Path.{_∙_, _≡_, ap, refl, sym}
 use native.Mathlib.Numerals.{add-one}
 use native.Mathlib.Omega.{arith}
 

@@ -1,6 +1,6 @@
 -- What the decision says of load's result: the same refusal, or that all the tests are passed.
 use Prim.Native.Nat.{_*_, _+_, _≤_, ℕ}
-use Rattle.load_model.specs.Load.{Room, accepted, countsDiffer?, loadResult, maxTable, maxVertices, pairTests, readResult, refused, shortSlice?, tableAfter, tableOf, tallyOf}
+use Rattle.load_model.specs.Load.{LoadRoom, accepted, countsDiffer?, loadResult, maxTable, maxVertices, pairTests, readResult, refused, shortSlice?, tableAfter, tableOf, tallyOf}
 use Rattle.load_model.specs.declared.Tally.{Tally}
 use Rattle.load.specs.code.Decision.{checkedAs, decision, pairDecision, readDecision}
 use Rattle.load.specs.code.File.{netlistOf}
@@ -9,7 +9,7 @@ use Rattle.load.specs.declared.decision.Decision.the-variants.{Go, Refus
 use Rattle.load.specs.declared.decision.Decision.{Decision}
 use Rattle.netlist.proofs.Choices.{cond-cases}
 use Rattle.netlist.proofs.ReadLaws.{accepted-holds}
-use Rattle.netlist.specs.code.Accepted.{Holds}
+use Rattle.netlist.specs.code.Accepted.{HoldsNetlist}
 use Rattle.netlist.specs.Check as check
 use Rattle.netlist.specs.Check.{answerOf, checkFile, readBy, readNetlist}
 use Rattle.netlist.specs.Limits.{maxBytes}
@@ -27,7 +27,7 @@ use lib.Dec.{eqb, ltb}
 use lib.ListN.{length}
 use mathlib.Core.Bool.{_||_, false, not}
 use mathlib.Core.List.{List}
-use mathlib.Core.Path.{_≡_, ap, ap₂, refl, subst, sym, _∙_}
+use mathlib.Core.Path.{_∙_, _≡_, ap, ap₂, refl, subst, sym}
 
 same : (m n : ℕ) → not (eqb m n) ≡ false → m ≡ n
 same m n h = eqb-true m n (not-false (eqb m n) h)
@@ -38,10 +38,10 @@ checked-is start (checked.Accepted s) e at = ap (λ (n : ℕ). checkedAs n (answ
 checked-is start (checked.Refused k n) e at = ap (checkedAs start) e
 
 -- Equal checks decide alike.
-pub both-checked : (room : Room) {c d e f : Checked} → c ≡ d → e ≡ f → readDecision c e room ≡ readDecision d f room
+pub both-checked : (room : LoadRoom) {c d e f : Checked} → c ≡ d → e ≡ f → readDecision c e room ≡ readDecision d f room
 both-checked room p q = ap₂ (λ (x y : Checked). readDecision x y room) p q
 
-module _ (left right : List ℕ) (room : Room) where
+module _ (left right : List ℕ) (room : LoadRoom) where
   -- Two files are loaded: they agree, the lent slices are long enough, and the result is the tally of their graph.
   pub record Goes (s t : Summary) : Type 0 where
     pub agreed : Agreed left right s t
@@ -75,11 +75,11 @@ module _ (left right : List ℕ) (room : Room) where
     -- Both files are accepted.
     module _ (s t : Summary) (of-left : checkFile left ≡ answerOf (checked.Accepted s)) (starts-left : s .start ≡ length (upTo 10 left) + 1)
         (of-right : checkFile right ≡ answerOf (checked.Accepted t)) (starts-right : t .start ≡ length (upTo 10 right) + 1) where
-      left-holds : Holds left s (netlistOf left s)
+      left-holds : HoldsNetlist left s (netlistOf left s)
       unfolding netlistOf
       left-holds = accepted-holds left s of-left starts-left
 
-      right-holds : Holds right t (netlistOf right t)
+      right-holds : HoldsNetlist right t (netlistOf right t)
       unfolding netlistOf
       right-holds = accepted-holds right t of-right starts-right
 

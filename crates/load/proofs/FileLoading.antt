@@ -3,7 +3,7 @@ use Prim.Native.Nat.{_*_, _+_, _<_, _≤_, suc, zero, ℕ}
 use Rattle.load_model.specs.Build.{Build, Traced, askGates, buildFile, literalFor, literalsFrom}
 use Rattle.load.proofs.Passing.{gates-in, literal-front, outputs-in}
 use Rattle.load.specs.code.File.{GatesAhead, GatesPassed, OutputsAhead}
-use Rattle.netlist.specs.code.Accepted.{Holds}
+use Rattle.netlist.specs.code.Accepted.{HoldsNetlist}
 use Rattle.netlist.specs.Check.{gatesIn, outputsIn}
 use Rattle.netlist.specs.Netlist as netlist
 use Rattle.netlist.specs.Netlist.{AllBelow, Netlist, bodyRecords}
@@ -14,7 +14,7 @@ use Rattle.text.specs.Decimal.{written}
 use lib.ListN.{drop, length, take}
 use lib.Seq.{take-at}
 use mathlib.Core.List.{List, [], _∷_, map}
-use mathlib.Core.Path.{_≡_, ap, ap₂, refl, sym, _∙_}
+use mathlib.Core.Path.{_∙_, _≡_, ap, ap₂, refl, sym}
 use native.Mathlib.Omega.{arith}
 
 below-more : {n m : ℕ} {rs : List ℕ} → n ≤ m → AllBelow n rs → AllBelow m rs
@@ -36,7 +36,7 @@ first-literals : (literals : List ℕ) (n : ℕ) → take n (written literals 0 
 unfolding written
 first-literals literals n = take-at (literalsFrom 0 n) (drop (0 + length (literalsFrom 0 n)) literals) n (literals-length 0 n)
 
-module _ {file : List ℕ} {s : Summary} {d : Netlist} (h : Holds file s d) where
+module _ {file : List ℕ} {s : Summary} {d : Netlist} (h : HoldsNetlist file s d) where
   -- The counts of a file and their limits.
   pub inputs-few : s .inputs ≤ maxInputs
   inputs-few = rw (h .counts) (h .within .inputs)

@@ -15,7 +15,7 @@ use Rattle.table.specs.Limits.{maxAnds, maxOutputs}
 use Rattle.text.specs.Decimal.{written}
 use lib.ListN.{drop, length, take}
 use mathlib.Core.List.{List, _++_}
-use mathlib.Core.Path.{_≡_, ap, refl, sym, _∙_}
+use mathlib.Core.Path.{_∙_, _≡_, ap, refl, sym}
 use native.Mathlib.Omega.{arith}
 
 -- Words written at the front.

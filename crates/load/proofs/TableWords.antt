@@ -9,7 +9,7 @@ use Rattle.text.specs.Decimal.{written}
 use lib.ListN.{drop, length, length-drop, take}
 use lib.Seq.{drop-at, length-take-le, take-add, take-append-le, take-append-seam, take-take}
 use mathlib.Core.List.{List}
-use mathlib.Core.Path.{_≡_, ap, refl, sym, _∙_}
+use mathlib.Core.Path.{_∙_, _≡_, ap, refl, sym}
 use native.Mathlib.Omega.{arith}
 
 -- A part of a list from a place on.

@@ -1,11 +1,11 @@
 -- The slices that load is lent: their lengths, and what a refusal leaves in them.
 use Prim.Native.Nat.{ℕ}
-use Rattle.load_model.specs.Load.{Answer, Room, accepted, refused}
+use Rattle.load_model.specs.Load.{Answer, LoadRoom, accepted, refused}
 use mathlib.Core.List.{List}
 use mathlib.Core.Path.{_≡_}
 
 -- The lengths of the table and the four working slices.
-abbrev pub roomOf : ℕ → ℕ → ℕ → ℕ → ℕ → Room
+abbrev pub roomOf : ℕ → ℕ → ℕ → ℕ → ℕ → LoadRoom
 roomOf table pairs look literals outputs =
     record { table = table; pairs = pairs; look = look; literals = literals; outputs = outputs }
 

@@ -10,7 +10,7 @@ ghost use Rattle.load_model.specs.Build.{askGates, buildFile, literalFor, liter
 ghost use Rattle.load_model.specs.Load.{maxVertices};
 ghost use Rattle.load_graph.specs.code.Slices.{Graph, buildOf, tracedOf};
 ghost use Rattle.load.specs.code.File.{GateLine, GatesAhead, GatesPassed, OutputLine, OutputsAhead, netlistOf};
-ghost use Rattle.netlist.specs.code.Accepted.{Holds};
+ghost use Rattle.netlist.specs.code.Accepted.{HoldsNetlist};
 ghost use Rattle.netlist.specs.Check.{gatesIn, outputsIn};
 ghost use Rattle.netlist.specs.Records.{fileRecords, recordOf};
 ghost use Rattle.table.specs.Limits.{maxAnds, maxInputs, maxOutputs};
@@ -37,7 +37,7 @@ pub fn load_file(
     from: usize,
     counts: Counts,
 ) -> Counts
-    requires file { ⌜ Holds (now file) summary (netlistOf (now file) summary) ⌝ }
+    requires file { ⌜ HoldsNetlist (now file) summary (netlistOf (now file) summary) ⌝ }
     requires graph { ⌜ Graph (now pairs) (now look) counts ⌝ }
     requires room { ⌜ (counts .asked + summary .ands ≤ maxAnds) × (2 * maxVertices ≤ length (now literals)) × (from + maxOutputs ≤ length (now outputs)) ⌝ }
     ensures result { λ r. ⌜ buildOf (now (pairs .exit)) r ≡ buildFile (buildOf (now (pairs .entry)) counts) (netlistOf (now (file .entry)) summary) .build ⌝ }

@@ -24,7 +24,7 @@ use lib.ListN.{length, length-set, set, take}
 use lib.Seq.{getD-take, take-suc-set}
 use mathlib.Core.Bool.{false}
 use mathlib.Core.List.{List, [], _++_, _∷_, append-assoc}
-use mathlib.Core.Path.{_≡_, ap, refl, _∙_}
+use mathlib.Core.Path.{_∙_, _≡_, ap, refl}
 use native.Mathlib.Omega.{arith}
 
 -- The words of the vertices so far, and those of one more.

@@ -13,7 +13,7 @@ use Rattle.text.specs.Decimal.{written}
 use lib.ListN.{List·getD-append, drop, length}
 use lib.Seq.{take-at}
 use mathlib.Core.List.{List}
-use mathlib.Core.Path.{_≡_, refl, sym, _∙_}
+use mathlib.Core.Path.{_∙_, _≡_, refl, sym}
 use native.Mathlib.Omega.{arith}
 
 -- No AND is asked for yet.

@@ -5,7 +5,7 @@ use Rattle.text.proofs.DecimalLaws.{written-append, written-one}
 use Rattle.text.specs.Decimal.{written}
 use lib.ListN.{length, length-set, set, take-append-drop}
 use mathlib.Core.List.{List, [], _∷_}
-use mathlib.Core.Path.{_≡_, ap, refl, sym, _∙_}
+use mathlib.Core.Path.{_∙_, _≡_, ap, refl, sym}
 use native.Mathlib.Numerals.{add-one}
 use native.Mathlib.Omega.{arith}
 

@@ -27,7 +27,7 @@ use Rattle.truth.specs.Truth.{Truth, conj, constantly, invert, leaf, node}
 use lib.ListN.{getD, length, length-map}
 use mathlib.Core.Bool.{false, true}
 use mathlib.Core.List.{List, [], _++_, _∷_, map}
-use mathlib.Core.Path.{_≡_, ap, ap₂, refl, subst₂, sym, _∙_}
+use mathlib.Core.Path.{_∙_, _≡_, ap, ap₂, refl, subst₂, sym}
 use native.Mathlib.Omega.{arith}
 
 -- An AND is the same in either order.

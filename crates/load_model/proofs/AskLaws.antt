@@ -3,7 +3,7 @@ use Prim.Native.Nat.{_*_, _+_, _<_, _≤_, ℕ}
 use Rattle.aig.proofs.FirstVertexLaws.{found-at, found-nothing}
 use Rattle.aig.proofs.FoldLaws.{pair-below, pair-unfolded, to-below}
 use Rattle.aig.specs.Fold.{Unfolded, foldOf}
-use Rattle.aig.specs.Lookup.{First, Holds, Unused, firstVertex, firstWord, secondWord}
+use Rattle.aig.specs.Lookup.{First, HoldsRow, Unused, firstVertex, firstWord, secondWord}
 use Rattle.aig.specs.declared.fold.Folded.the-variants.{Pair, To}
 use Rattle.aig.specs.declared.fold.Folded.{Folded}
 use Rattle.aig.specs.declared.literal.Literal.{Literal}
@@ -16,7 +16,7 @@ use Rattle.load_model.specs.code.Grown.{Step}
 use lib.ListN.{List·getD-append, length, length-append}
 use lib.Seq.{getD-append-add, getD-at}
 use mathlib.Core.List.{List, [], _++_, _∷_}
-use mathlib.Core.Path.{_≡_, refl, subst, sym, _∙_}
+use mathlib.Core.Path.{_∙_, _≡_, refl, subst, sym}
 use native.Mathlib.Decide.{decLt}
 use native.Mathlib.Omega.{arith}
 
@@ -51,15 +51,15 @@ module _ (ws more : List ℕ) (v : ℕ) (fits : 2 * (v + 1) ≤ length ws) where
   second-word-kept = List·getD-append ws more 0 (2 * v + 1) (omega arith)
 
   -- the pair that it holds,
-  pub holds-kept : {p q : ℕ} → Holds ws v p q → Holds (ws ++ more) v p q
+  pub holds-kept : {p q : ℕ} → HoldsRow ws v p q → HoldsRow (ws ++ more) v p q
   holds-kept h = record { first = first-word-kept ∙ h .first; second = second-word-kept ∙ h .second }
 
   -- and what it held before.
-  pub holds-before : {p q : ℕ} → Holds (ws ++ more) v p q → Holds ws v p q
+  pub holds-before : {p q : ℕ} → HoldsRow (ws ++ more) v p q → HoldsRow ws v p q
   holds-before h = record { first = sym first-word-kept ∙ h .first; second = sym second-word-kept ∙ h .second }
 
 -- The words of the vertex that is made.
-pub holds-new : (ws : List ℕ) (v p q : ℕ) → length ws ≡ 2 * v → Holds (ws ++ (p ∷ q ∷ [])) v p q
+pub holds-new : (ws : List ℕ) (v p q : ℕ) → length ws ≡ 2 * v → HoldsRow (ws ++ (p ∷ q ∷ [])) v p q
 holds-new ws v p q e =
     record {
       first = getD-at ws p (q ∷ []) 0 (2 * v) e;
@@ -71,7 +71,7 @@ unused-kept : (ws more : List ℕ) (p q n : ℕ) → 2 * n ≤ length ws → Unu
 unused-kept ws more p q n fits none v below h = none v below (holds-before ws more v (omega arith) h)
 
 -- A row that holds its pair.
-row-holds : {ws : List ℕ} {v p q : ℕ} → Holds ws v p q → Unfolded p q → q < 2 * v → Unused ws p q v → Row ws v
+row-holds : {ws : List ℕ} {v p q : ℕ} → HoldsRow ws v p q → Unfolded p q → q < 2 * v → Unused ws p q v → Row ws v
 row-holds h u d none =
     record { unfolded = rw (h .first, h .second) u; downward = rw (h .second) d; new = rw (h .first, h .second) none }
 

@@ -7,7 +7,7 @@ use Rattle.table.specs.Table.{pairs}
 use Rattle.table.specs.Values.{Pair}
 use lib.ListN.{length, length-append}
 use mathlib.Core.List.{List, [], _++_, _∷_, append-assoc, append-nil}
-use mathlib.Core.Path.{_≡_, ap, refl, sym, _∙_}
+use mathlib.Core.Path.{_∙_, _≡_, ap, refl, sym}
 use native.Mathlib.Omega.{arith}
 
 -- The words of some rows after others.

@@ -1,6 +1,6 @@
 -- Demand 1: the files of two netlists within the limits are accepted, and nothing else is.
 use Prim.Native.Nat.{_*_, _+_, _≤_, ℕ}
-use Rattle.load_model.specs.Load.{Room, accepted, countsDiffer?, lengthTests, loadResult, maxTable, maxVertices, pairTests, readResult, refused, shortSlice?, tableAfter, tableOf, tallyOf}
+use Rattle.load_model.specs.Load.{LoadRoom, accepted, countsDiffer?, lengthTests, loadResult, maxTable, maxVertices, pairTests, readResult, refused, shortSlice?, tableAfter, tableOf, tallyOf}
 use Rattle.load_model.specs.Loadable.{Enough, Loadable, Loads}
 use Rattle.load_model.specs.declared.Tally.{Tally}
 use Rattle.netlist.proofs.ReadLaws.{read-back, read-only}
@@ -24,7 +24,7 @@ counts-agree : {d e : Netlist} → Loadable d e → countsDiffer? d e ≡ false
 unfolding countsDiffer?
 counts-agree {d} {e} h = rw (eq-eqb (d .inputs) (e .inputs) (h .inputs), eq-eqb (length (d .outputs)) (length (e .outputs)) (h .outputs))
 
-slices-suffice : {room : Room} → Enough room → shortSlice? room ≡ false
+slices-suffice : {room : LoadRoom} → Enough room → shortSlice? room ≡ false
 unfolding shortSlice?
 slices-suffice {room} h =
     rw (
@@ -35,7 +35,7 @@ slices-suffice {room} h =
     )
 
 -- Files from which two such netlists are read are accepted.
-pub load-given : {left right : List ℕ} {room : Room} {t : Tally} → Loads left right room t → loadResult left right room ≡ accepted t
+pub load-given : {left right : List ℕ} {room : LoadRoom} {t : Tally} → Loads left right room t → loadResult left right room ≡ accepted t
 unfolding loadResult readResult firstRefusal
 load-given {left} {right} {room} h =
     let d = h .first in
@@ -55,7 +55,7 @@ load-given {left} {right} {room} h =
     ) refl)
 
 -- Demand 1: the files of two netlists within the limits, with equal counts and at most 6,144 ANDs, are accepted where there is room.
-pub load-accepts : {d e : Netlist} {room : Room} → Loadable d e → Enough room → length (bytesOf d) ≤ 65536 → length (bytesOf e) ≤ 65536
+pub load-accepts : {d e : Netlist} {room : LoadRoom} → Loadable d e → Enough room → length (bytesOf d) ≤ 65536 → length (bytesOf e) ≤ 65536
     → loadResult (bytesOf d) (bytesOf e) room ≡ accepted (tallyOf d e)
 load-accepts {d} {e} h r left right =
     load-given (
@@ -102,7 +102,7 @@ counts-agreed d e h =
     let p = neither (not i) (not o) h in
     (eqb-true (d .inputs) (e .inputs) (not-false i (p .0)), eqb-true (length (d .outputs)) (length (e .outputs)) (not-false o (p .1)))
 
-slices-sufficed : (room : Room) → maxTable ≤ room .table → shortSlice? room ≡ false → Enough room
+slices-sufficed : (room : LoadRoom) → maxTable ≤ room .table → shortSlice? room ≡ false → Enough room
 unfolding shortSlice?
 slices-sufficed room table h =
     let o = neither (ltb (room .pairs) size || ltb (room .look) size || ltb (room .literals) size) (ltb (room .outputs) size) h in
@@ -120,7 +120,7 @@ slices-sufficed room table h =
     size = 2 * maxVertices
 
 -- What is accepted is the files of two such netlists.
-pub load-only : (left right : List ℕ) (room : Room) (t : Tally) → loadResult left right room ≡ accepted t → Loads left right room t
+pub load-only : (left right : List ℕ) (room : LoadRoom) (t : Tally) → loadResult left right room ≡ accepted t → Loads left right room t
 unfolding loadResult readResult
 load-only left right room t h =
     let p = none-applied (readResult room (readNetlist left) (readNetlist right)) (accepted t) (lengthTests left right) (refusal-apart, (refusal-apart, tt)) h in
@@ -153,7 +153,7 @@ load-only left right room t h =
         }
 
 -- The table that an accepted load leaves.
-pub load-table : {left right : List ℕ} {room : Room} {t : Tally} (h : Loads left right room t) (old : List ℕ)
+pub load-table : {left right : List ℕ} {room : LoadRoom} {t : Tally} (h : Loads left right room t) (old : List ℕ)
     → tableAfter (loadResult left right room) (readNetlist left) (readNetlist right) old ≡ tableOf (h .first) (h .second) old
 unfolding tableAfter
 load-table h old = rw (load-given h, h .first-read, h .second-read)

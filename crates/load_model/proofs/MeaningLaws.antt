@@ -7,7 +7,7 @@ use Rattle.aig.specs.Literal.{negate, vertexOf}
 use Rattle.aig.specs.Values.{literalValue}
 use Rattle.load_model.proofs.AskLaws.{Asked, ask-cases, first-word-kept, folded, found, holds-new, made, second-word-kept}
 use Rattle.load_model.proofs.FromLaws.{from-append, from-none}
-use Rattle.load_model.proofs.GateLaws.{afterGate, after-gate-ready, gates-step, literal-for-below, xor-one, xor-three, xor-two, xorOne, xorTwo}
+use Rattle.load_model.proofs.GateLaws.{after-gate-ready, afterGate, gates-step, literal-for-below, xor-one, xor-three, xor-two, xorOne, xorTwo}
 use Rattle.load_model.proofs.GrownLaws.{grown-none, grown-one, grown-then}
 use Rattle.load_model.proofs.RowLaws.{holds-made}
 use Rattle.load_model.specs.Build.{Build, Built, Traced, askAnd, askGate, askGates, askXor, inverted, literalFor}
@@ -22,7 +22,7 @@ use Rattle.netlist.specs.declared.records.Operation.{Operation}
 use lib.ListN.{getD, length, length-append}
 use mathlib.Core.Bool.{false}
 use mathlib.Core.List.{List, [], _++_, _∷_, map-append}
-use mathlib.Core.Path.{_≡_, ap, ap₂, refl, _∙_}
+use mathlib.Core.Path.{_∙_, _≡_, ap, ap₂, refl}
 use native.Mathlib.Omega.{arith}
 
 module _ {A : Type 0} {Sound : A → Type 0} {invert : A → A} {both : A → A → A} {falsum : A} {vs : List A}

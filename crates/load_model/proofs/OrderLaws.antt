@@ -1,6 +1,6 @@
 -- The order of load's own tests, in the paper's numbers: each refusal is said where its sentence holds and none of those before it does.
 use Prim.Native.Nat.{_+_, _<_, _≤_, ℕ}
-use Rattle.load_model.specs.Load.{Room, countsDiffer?, loadResult, maxTable, readResult, refused, shortSlice?}
+use Rattle.load_model.specs.Load.{LoadRoom, countsDiffer?, loadResult, maxTable, readResult, refused, shortSlice?}
 use Rattle.netlist.specs.Check.{read, readNetlist}
 use Rattle.netlist.specs.Limits.{maxBytes}
 use Rattle.netlist.specs.Meaning.{andCount}
@@ -16,7 +16,7 @@ use mathlib.Core.List.{List}
 use mathlib.Core.Logic.{_⊎_, ⊎-elim}
 use mathlib.Core.Path.{_∙_, _≡_, ap, refl}
 
-module _ (left right : List ℕ) (room : Room) where
+module _ (left right : List ℕ) (room : LoadRoom) where
   -- "1. The file is longer than 65,536 bytes.", the first file before the second.
   pub first-long : 65536 < length left → loadResult left right room ≡ refused 1 1 0
   unfolding loadResult firstRefusal
@@ -38,7 +38,7 @@ pub record SameCounts (d e : Netlist) : Type 0 where
   pub inputs : d .inputs ≡ e .inputs
   pub outputs : length (d .outputs) ≡ length (e .outputs)
 
-module _ {left right : List ℕ} {d e : Netlist} (room : Room) (h : BothRead left right d e) where
+module _ {left right : List ℕ} {d e : Netlist} (room : LoadRoom) (h : BothRead left right d e) where
   all-read : loadResult left right room ≡ readResult room (read d) (read e)
   unfolding loadResult firstRefusal
   all-read = rw (le-ltb maxBytes (length left) (h .first-length), le-ltb maxBytes (length right) (h .second-length), h .first-read, h .second-read) refl

@@ -1,7 +1,7 @@
 -- A file and both files: the graph is good, every AND is counted, and the outputs are literals of the graph.
 use Prim.Native.Nat.{_*_, _+_, _<_, _≤_, suc, zero, ℕ}
 use Rattle.aig.proofs.OwnLaws.{length-own, own-holds}
-use Rattle.aig.specs.Lookup.{Holds, ownWords}
+use Rattle.aig.specs.Lookup.{HoldsRow, ownWords}
 use Rattle.load_model.proofs.GateLaws.{gates-ready, gates-step, literal-for-below}
 use Rattle.load_model.proofs.GrownLaws.{step-below, step-then}
 use Rattle.load_model.specs.Build.{Build, FileBuilt, Traced, askGates, buildFile, buildPair, emptyBuild, literalFor, literalsFrom}
@@ -23,7 +23,7 @@ empty-good n =
       sized = length-own 0 (1 + n);
       tally = omega arith;
       first = omega arith;
-      own = λ v h. subst (λ (r : ℕ). Holds (ownWords 0 (1 + n)) v (2 * r) (2 * r)) (omega arith) (own-holds 0 (1 + n) v h);
+      own = λ v h. subst (λ (r : ℕ). HoldsRow (ownWords 0 (1 + n)) v (2 * r) (2 * r)) (omega arith) (own-holds 0 (1 + n) v h);
       rows = λ v h k. absurd (omega arith);
     }
 

@@ -1,7 +1,7 @@
 -- What the outputs of a file and of both files mean, over any domain, and which ANDs the rows come from.
 use Prim.Native.Nat.{_*_, _+_, _<_, _≤_, suc, zero, ℕ}
 use Rattle.aig.specs.Values.{literalValue}
-use Rattle.load_model.proofs.MeaningLaws.{gates-mean, literal-for-means, origin-then, valued-before, value-vertex}
+use Rattle.load_model.proofs.MeaningLaws.{gates-mean, literal-for-means, origin-then, value-vertex, valued-before}
 use Rattle.load_model.proofs.PairLaws.{empty-good, fileStart, left-step, right-step, start-ready}
 use Rattle.load_model.specs.Build.{Build, Traced, askGates, buildFile, buildPair, literalFor, literalsFrom}
 use Rattle.load_model.specs.code.Good.{Good}
@@ -11,7 +11,7 @@ use Rattle.netlist.specs.Netlist.{Netlist}
 use Rattle.netlist.specs.declared.records.Operation.{Operation}
 use lib.ListN.{List·getD-eq-default, getD, length}
 use mathlib.Core.List.{List, [], _∷_, map}
-use mathlib.Core.Path.{_≡_, ap, refl, subst, sym, _∙_}
+use mathlib.Core.Path.{_∙_, _≡_, ap, refl, subst, sym}
 use native.Mathlib.Decide.{decLt}
 use native.Mathlib.Omega.{arith}
 

@@ -3,11 +3,11 @@ use Prim.Native.Nat.{_+_, _<_, _≤_, ℕ}
 use Rattle.aig.proofs.FoldLaws.{fold-ordered}
 use Rattle.aig.specs.Fold.{foldOf}
 use Rattle.aig.specs.Literal.{lit}
-use Rattle.aig.specs.Lookup.{Entered, Holds, firstWord, secondWord}
+use Rattle.aig.specs.Lookup.{Entered, HoldsRow, firstWord, secondWord}
 use Rattle.aig.specs.declared.fold.Folded.the-variants.{Pair}
 use Rattle.load_model.specs.Build.{Build}
 use Rattle.load_model.specs.code.Good.{Good}
-use mathlib.Core.Path.{_≡_, sym, _∙_}
+use mathlib.Core.Path.{_∙_, _≡_, sym}
 use native.Mathlib.Decide.{decLt}
 use native.Mathlib.Omega.{arith}
 
@@ -23,17 +23,17 @@ module _ {n : ℕ} {b : Build} (g : Good n b) where
       elim (decLt n v) [ yes h ↦ h | no h ↦ (let o = g .own v (omega arith) in absurd (e (o .first ∙ sym (o .second)))) ]
 
   -- A vertex that holds a pair of different words is a made one.
-  pub holds-made : {v p q : ℕ} → Holds (b .words) v p q → p < q → n < v
+  pub holds-made : {v p q : ℕ} → HoldsRow (b .words) v p q → p < q → n < v
   holds-made {v} h l = entered-made v (λ e. omega (arith, h .first, h .second))
 
   -- "no two rows hold the same pair"
   pub rows-differ : (u v : ℕ) → u < v → v < b .count → Entered (b .words) v
-      → Holds (b .words) u (firstWord (b .words) v) (secondWord (b .words) v) → ⊥
+      → HoldsRow (b .words) u (firstWord (b .words) v) (secondWord (b .words) v) → ⊥
   rows-differ u v l k e h = g .rows v (entered-made v e) k .new u l h
 
   -- So two vertices that hold one pair of different words are one vertex.
   pub rows-once : (u v : ℕ) → u < b .count → v < b .count → Entered (b .words) u
-      → Holds (b .words) v (firstWord (b .words) u) (secondWord (b .words) u) → u ≡ v
+      → HoldsRow (b .words) v (firstWord (b .words) u) (secondWord (b .words) u) → u ≡ v
   rows-once u v hu hv e h =
       elim (decLt v u) [
         | yes l ↦ absurd (rows-differ v u l hu e h)

@@ -17,9 +17,9 @@ use Rattle.table.specs.Limits.{maxAnds, maxInputs, maxOutputs}
 use Rattle.table.specs.Table.{graphOf, outputWords, pairs, rowAt, rowsOf, sideOutputs}
 use Rattle.table.specs.Values.{Pair}
 use lib.ListN.{drop, getD, length, length-append, length-drop}
-use lib.Seq.{drop-append-seam, drop-at, take-append-add, take-all, take-append-seam}
+use lib.Seq.{drop-append-seam, drop-at, take-all, take-append-add, take-append-seam}
 use mathlib.Core.List.{List, [], _++_, _∷_, append-assoc, append-nil}
-use mathlib.Core.Path.{_≡_, ap, sym, _∙_}
+use mathlib.Core.Path.{_∙_, _≡_, ap, sym}
 use native.Mathlib.Omega.{arith}
 
 -- A table with its words in place.

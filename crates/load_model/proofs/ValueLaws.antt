@@ -24,7 +24,7 @@ use Rattle.truth.specs.Truth.{Perfect, Setting, Truth, conj, constantly, invert
 use lib.ListN.{getD, length}
 use mathlib.Core.Bool.{Bool, _&&_, false, not}
 use mathlib.Core.List.{List, _∷_}
-use mathlib.Core.Path.{_≡_, ap, refl, subst, _∙_}
+use mathlib.Core.Path.{_∙_, _≡_, ap, refl, subst}
 use native.Mathlib.Omega.{arith}
 
 module _ {A : Type 0} {Sound : A → Type 0} {inverse : A → A} {both : A → A → A} {falsum : A} {us : List A}

@@ -1,6 +1,6 @@
 -- The bench cards on loading, marked P, from the bytes of the files. "a is reference 2, b is 4": inputs 1 and 2, of two.
 use Prim.Native.Nat.{_*_, ℕ}
-use Rattle.load_model.specs.Load.{Room, accepted, loadResult, maxTable, maxVertices, tableAfter}
+use Rattle.load_model.specs.Load.{LoadRoom, accepted, loadResult, maxTable, maxVertices, tableAfter}
 use Rattle.netlist.specs.Check.{readNetlist}
 use Rattle.table.specs.Table.{graphOf, outputValue}
 use Rattle.truth.specs.Truth.{Setting}
@@ -29,7 +29,7 @@ abbrev pub falseFile : List ℕ
 falseFile = 78 ∷ 9 ∷ 49 ∷ 9 ∷ 50 ∷ 9 ∷ 48 ∷ 9 ∷ 49 ∷ 10 ∷ 79 ∷ 9 ∷ 48 ∷ 10 ∷ []
 
 -- Slices that are just long enough.
-abbrev pub room : Room
+abbrev pub room : LoadRoom
 room = record { table = maxTable; pairs = 2 * maxVertices; look = 2 * maxVertices; literals = 2 * maxVertices; outputs = 2 * maxVertices }
 
 -- The table after a load of two files.

@@ -17,7 +17,7 @@ use mathlib.Core.Bool.{Bool, _||_, not}
 use mathlib.Core.List.{List, [], _++_, _∷_}
 
 -- The lengths of the lent slices: the table and four working slices.
-pub record Room : Type 0 where
+pub record LoadRoom : Type 0 where
   pub table : ℕ
   pub pairs : ℕ
   pub look : ℕ
@@ -54,12 +54,12 @@ unfoldable pub countsDiffer? : Netlist → Netlist → Bool
 countsDiffer? d e = not (eqb (d .inputs) (e .inputs)) || not (eqb (length (d .outputs)) (length (e .outputs)))
 
 -- "14. A working slice is short: four slices of 2 words a vertex (load: for 6,209 vertices)"
-unfoldable pub shortSlice? : Room → Bool
+unfoldable pub shortSlice? : LoadRoom → Bool
 shortSlice? r =
     ltb (r .pairs) (2 * maxVertices) || ltb (r .look) (2 * maxVertices) || ltb (r .literals) (2 * maxVertices) || ltb (r .outputs) (2 * maxVertices)
 
 -- "then 7, 8, 9, 14": "8. The ANDs exceed 6,144. 9. The table is shorter than 12,419 words."
-abbrev pub pairTests : Netlist → Netlist → Room → List (Test Answer)
+abbrev pub pairTests : Netlist → Netlist → LoadRoom → List (Test Answer)
 pairTests d e room =
     record { answer = refused 7 2 1; applies = countsDiffer? d e }
     ∷ record { answer = refused 8 0 0; applies = ltb maxAnds (andCount (d .gates) + andCount (e .gates)) }
@@ -74,13 +74,13 @@ tallyOf d e =
     record { asked = b .asked; folded = b .folded; found = b .found; made = b .count - (1 + d .inputs) }
 
 -- "then 2 to 6 line by line, first file first"
-unfoldable pub readResult : Room → Read → Read → Answer
+unfoldable pub readResult : LoadRoom → Read → Read → Answer
 readResult room (unread k n) e = refused k 1 n
 readResult room (read d) (unread k n) = refused k 2 n
 readResult room (read d) (read e) = firstRefusal (accepted (tallyOf d e)) (pairTests d e room)
 
 -- "Load tests 1 for both files, then 2 to 6 line by line, first file first, then 7, 8, 9, 14, and names file and line"
-unfoldable pub loadResult : List ℕ → List ℕ → Room → Answer
+unfoldable pub loadResult : List ℕ → List ℕ → LoadRoom → Answer
 loadResult left right room = firstRefusal (readResult room (readNetlist left) (readNetlist right)) (lengthTests left right)
 
 -- "The lent table of 32-bit words then holds: inputs; made; outputs; two words a made vertex; the first file's output references; the

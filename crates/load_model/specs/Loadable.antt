@@ -1,6 +1,6 @@
 -- The pairs of netlists that are loaded, and the room that is asked of the lent slices, in the paper's own numbers.
 use Prim.Native.Nat.{_+_, _≤_, ℕ}
-use Rattle.load_model.specs.Load.{Room, tallyOf}
+use Rattle.load_model.specs.Load.{LoadRoom, tallyOf}
 use Rattle.load_model.specs.declared.Tally.{Tally}
 use Rattle.netlist.specs.Check.{read, readNetlist}
 use Rattle.netlist.specs.Meaning.{andCount}
@@ -18,7 +18,7 @@ pub record Loadable (d e : Netlist) : Type 0 where
   pub ands : andCount (d .gates) + andCount (e .gates) ≤ 6144
 
 -- The table and the working slices are long enough: "12,419 words", "2 words a vertex (load: for 6,209 vertices)".
-pub record Enough (room : Room) : Type 0 where
+pub record Enough (room : LoadRoom) : Type 0 where
   pub table : 12419 ≤ room .table
   pub pairs : 12418 ≤ room .pairs
   pub look : 12418 ≤ room .look
@@ -26,7 +26,7 @@ pub record Enough (room : Room) : Type 0 where
   pub outputs : 12418 ≤ room .outputs
 
 -- What an accepted load was given: the files of two such netlists, and enough room.
-pub record Loads (left right : List ℕ) (room : Room) (tally : Tally) : Type 0 where
+pub record Loads (left right : List ℕ) (room : LoadRoom) (tally : Tally) : Type 0 where
   pub first : Netlist
   pub second : Netlist
   pub first-read : readNetlist left ≡ read first

@@ -15,7 +15,7 @@ use Rattle.netlist.specs.declared.records.Record.{Record}
 use Rattle.table.specs.Refusals.{firstRefusal}
 use lib.ListN.{length}
 use mathlib.Core.List.{List, [], _++_, _∷_, map}
-use mathlib.Core.Path.{_≡_, ap, refl, sym, _∙_}
+use mathlib.Core.Path.{_∙_, _≡_, ap, refl, sym}
 use native.Mathlib.Omega.{arith}
 
 -- What is due after line 1, and what an accepted file has at its end.

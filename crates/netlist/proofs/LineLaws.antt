@@ -11,7 +11,7 @@ use lib.Dec.{ltb}
 use lib.ListN.{drop, drop-of-length-le, length, length-drop}
 use mathlib.Core.Bool.{Bool, false, true}
 use mathlib.Core.List.{List, [], _++_, _∷_}
-use mathlib.Core.Path.{_≡_, ap, refl, sym, _∙_}
+use mathlib.Core.Path.{_∙_, _≡_, ap, refl, sym}
 use native.Mathlib.Omega.{arith}
 
 -- A line before other parts is ended.

@@ -12,7 +12,7 @@ use Rattle.netlist.specs.declared.records.Operation.{Operation}
 use lib.ListN.{List·getD-append, getD, length, length-append}
 use lib.Seq.{getD-at}
 use mathlib.Core.List.{List, [], _++_, _∷_, append-assoc}
-use mathlib.Core.Path.{_≡_, ap₂, refl, sym, _∙_}
+use mathlib.Core.Path.{_∙_, _≡_, ap₂, refl, sym}
 use native.Mathlib.Omega.{arith}
 
 -- The gates after some others.

@@ -17,7 +17,7 @@ use Rattle.table.specs.Limits.{maxOutputs}
 use Rattle.text.specs.Split.{upTo}
 use lib.ListN.{drop, length}
 use mathlib.Core.List.{List}
-use mathlib.Core.Path.{_≡_, ap, refl, subst, sym, _∙_}
+use mathlib.Core.Path.{_∙_, _≡_, ap, refl, subst, sym}
 use native.Mathlib.Omega.{arith}
 
 -- The counts of what is due after line 1.

@@ -3,7 +3,7 @@ use Prim.Native.Nat.{_+_, ℕ}
 use Rattle.netlist.proofs.CheckLaws.{Taken, records-accepted, taken}
 use Rattle.netlist.proofs.FileLaws.{bytes-read, file-written, within-spelled}
 use Rattle.netlist.proofs.LineLaws.{line-ahead}
-use Rattle.netlist.specs.code.Accepted.{Holds, countsIn, summaryOf}
+use Rattle.netlist.specs.code.Accepted.{HoldsNetlist, countsIn, summaryOf}
 use Rattle.netlist.specs.Check.{Answer, Counts, accepted, answerOf, body, checkFile, gatesIn, netlistIn, outputsIn, read, readBy, readNetlist, refused, unread}
 use Rattle.netlist.specs.Netlist as netlist
 use Rattle.netlist.specs.Netlist.{Netlist, Within, bodyRecords, bytesOf, gateRecord, headerRecord, linesBytes, netlistRecords}
@@ -14,7 +14,7 @@ use Rattle.netlist.specs.declared.records.Record.the-variants.{Gate, Mal
 use Rattle.text.specs.Split.{upTo}
 use lib.ListN.{length}
 use mathlib.Core.List.{List, [], _++_, _∷_, map}
-use mathlib.Core.Path.{_≡_, ap, ap₂, refl, subst, subst⁻¹, sym, _∙_}
+use mathlib.Core.Path.{_∙_, _≡_, ap, ap₂, refl, subst, subst⁻¹, sym}
 use native.Mathlib.Omega.{arith}
 
 gates-in : (gs : List netlist.Gate) (os : List ℕ) → gatesIn (map gateRecord gs ++ map Output os) ≡ gs
@@ -47,7 +47,7 @@ module _ {d : Netlist} (w : Within d) (bytes : List ℕ) (e : fileRecords bytes 
   unfolding readNetlist readBy
   records-read = rw (records-checked, e) (ap read (netlist-in d))
 
-  records-hold : Holds bytes (summaryOf (length (upTo 10 bytes) + 1) d) d
+  records-hold : HoldsNetlist bytes (summaryOf (length (upTo 10 bytes) + 1) d) d
   unfolding bytesOf netlistRecords
   records-hold =
       let first = line-ahead bytes 0 e (header-formed d) in
@@ -74,13 +74,13 @@ checked bytes c e = taken c (fileRecords bytes) e
 
 -- So it holds that netlist.
 pub accepted-holds : (bytes : List ℕ) (s : Summary) → checkFile bytes ≡ answerOf (Accepted s) → s .start ≡ length (upTo 10 bytes) + 1
-    → Holds bytes s (netlistIn (s .inputs) (fileRecords bytes))
+    → HoldsNetlist bytes s (netlistIn (s .inputs) (fileRecords bytes))
 accepted-holds bytes s e at =
     let t = checked bytes _ e in
     let i : s .inputs ≡ t .held .inputs = ap (λ (x : Counts). x .inputs) (t .sums) in
     let d : netlistIn (s .inputs) (fileRecords bytes) ≡ t .held = ap₂ netlistIn i (t .records) ∙ netlist-in (t .held) in
     let sums : s ≡ summaryOf (length (upTo 10 bytes) + 1) (t .held) = summed at (t .sums) in
-    subst⁻¹ (Holds bytes s) d (subst⁻¹ (λ (x : Summary). Holds bytes x (t .held)) sums (records-hold (t .within) bytes (t .records)))
+    subst⁻¹ (HoldsNetlist bytes s) d (subst⁻¹ (λ (x : Summary). HoldsNetlist bytes x (t .held)) sums (records-hold (t .within) bytes (t .records)))
   where
     summed : {n : ℕ} {c : Counts} → s .start ≡ n
         → record { inputs = s .inputs; gates = s .gates; outputs = s .outputs; ands = s .ands } ≡ c
@@ -88,18 +88,18 @@ accepted-holds bytes s e at =
     summed f g = rw (← f, ← g) refl
 
 -- What is read holds the netlist that is given.
-pub read-holds : (bytes : List ℕ) (d : Netlist) → readNetlist bytes ≡ read d → Holds bytes (summaryOf (length (upTo 10 bytes) + 1) d) d
+pub read-holds : (bytes : List ℕ) (d : Netlist) → readNetlist bytes ≡ read d → HoldsNetlist bytes (summaryOf (length (upTo 10 bytes) + 1) d) d
 unfolding readNetlist readBy
 read-holds bytes d e = go (checkFile bytes) refl e
   where
-    go : (c : Answer) → checkFile bytes ≡ c → readBy c (fileRecords bytes) ≡ read d → Holds bytes (summaryOf (length (upTo 10 bytes) + 1) d) d
+    go : (c : Answer) → checkFile bytes ≡ c → readBy c (fileRecords bytes) ≡ read d → HoldsNetlist bytes (summaryOf (length (upTo 10 bytes) + 1) d) d
     go (refused k n) h f = let z : _≡_ {A = ℕ} 0 1 = cc in absurd (omega arith)
     go (accepted c) h f =
         let t = checked bytes c h in
         let i : c .inputs ≡ t .held .inputs = ap (λ (x : Counts). x .inputs) (t .sums) in
         let is : netlistIn (c .inputs) (fileRecords bytes) ≡ d = cc in
         let held : t .held ≡ d = sym (ap₂ netlistIn i (t .records) ∙ netlist-in (t .held)) ∙ is in
-        subst (λ (x : Netlist). Holds bytes (summaryOf (length (upTo 10 bytes) + 1) x) x) held (records-hold (t .within) bytes (t .records))
+        subst (λ (x : Netlist). HoldsNetlist bytes (summaryOf (length (upTo 10 bytes) + 1) x) x) held (records-hold (t .within) bytes (t .records))
 
 -- It was accepted.
 pub read-accepted : (bytes : List ℕ) (d : Netlist) → readNetlist bytes ≡ read d → checkFile bytes ≡ accepted (countsIn d)

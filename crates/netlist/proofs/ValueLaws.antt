@@ -14,7 +14,7 @@ use Rattle.truth.specs.Truth.{Setting, Truth, conj, constantly, disj, exclusive
 use lib.ListN.{getD, length}
 use mathlib.Core.Bool.{Bool, _&&_, false, not, true, xor}
 use mathlib.Core.List.{List, [], _++_, _∷_, map, map-append}
-use mathlib.Core.Path.{_≡_, ap, ap₂, refl, _∙_}
+use mathlib.Core.Path.{_∙_, _≡_, ap, ap₂, refl}
 
 -- A gate's function is the stated inversion of its ANDs.
 pub function-from-ands :

@@ -2,7 +2,7 @@
 use Prim.Native.Nat.{_<_, ℕ}
 use Rattle.product_model.proofs.Members.{apart-none, within-append}
 use Rattle.product_model.proofs.Ran.{Done, Grown, ShortOfRows, grown-from, kept}
-use Rattle.product_model.specs.code.Books.{Holds, Proper}
+use Rattle.product_model.specs.code.Books.{HoldsParts, Proper}
 use Rattle.product_model.specs.Run.{Book}
 use Rattle.truth.proofs.Booleans.{iff-equal}
 use Rattle.truth.proofs.Distinct.{Within, among-append, apart-distinct, distinct-same}
@@ -15,7 +15,7 @@ use mathlib.Core.Bool.{_||_, or-comm}
 use mathlib.Core.List.{List, _++_, _∷_}
 use mathlib.Core.Path.{_∙_, _≡_, ap, sym}
 
-holds-more : (f : Truth) {b : Book} {fs : List Truth} → Holds b fs → (t : Truth) → among alike? t (parts f ++ b .store) ≡ among alike? t (allParts (f ∷ fs))
+holds-more : (f : Truth) {b : Book} {fs : List Truth} → HoldsParts b fs → (t : Truth) → among alike? t (parts f ++ b .store) ≡ among alike? t (allParts (f ∷ fs))
 unfolding allParts
 holds-more f {b} {fs} H t =
     among-append alike? t (parts f) (b .store)
@@ -23,13 +23,13 @@ holds-more f {b} {fs} H t =
     ∙ sym (among-append alike? t (parts f) (allParts fs))
 
 -- "Functions together count a shared part once": the number of rows of such a store and of one function more.
-pub holds-together : (f : Truth) {b : Book} {fs : List Truth} → Holds b fs → length (distinct alike? (parts f ++ b .store)) ≡ together (f ∷ fs)
+pub holds-together : (f : Truth) {b : Book} {fs : List Truth} → HoldsParts b fs → length (distinct alike? (parts f ++ b .store)) ≡ together (f ∷ fs)
 unfolding together
 holds-together f {b} {fs} H = distinct-same alike? alike-sameness (parts f ++ b .store) (allParts (f ∷ fs)) (holds-more f H)
 
 module _ {rowLimit stepLimit : ℕ} where
   -- The number of rows of such a store.
-  pub holds-rows : {b : Book} {fs : List Truth} → Proper rowLimit stepLimit b → Holds b fs → length (b .store) ≡ together fs
+  pub holds-rows : {b : Book} {fs : List Truth} → Proper rowLimit stepLimit b → HoldsParts b fs → length (b .store) ≡ together fs
   unfolding together
   holds-rows {b} {fs} P H =
       sym (ap length (apart-distinct alike? alike-sameness (b .store) (P .no-repeats)))
@@ -63,10 +63,10 @@ module _ {rowLimit stepLimit : ℕ} where
       G = D .grown
 
   -- Done: the rows are then the parts of one function more.
-  pub done-holds : (f : Truth) {fs : List Truth} {n : ℕ} {b c : Book} → Holds b fs → Done rowLimit stepLimit (parts f) n b c → Holds c (f ∷ fs)
+  pub done-holds : (f : Truth) {fs : List Truth} {n : ℕ} {b c : Book} → HoldsParts b fs → Done rowLimit stepLimit (parts f) n b c → HoldsParts c (f ∷ fs)
   done-holds f {b = b} H D = record { members = λ t. done-all D t ∙ holds-more f H t }
 
   -- Short of rows: these functions have together more parts than the limit.
-  pub rows-together : (f : Truth) {fs : List Truth} {l n : ℕ} {b c : Book} → Holds b fs → ShortOfRows rowLimit stepLimit (parts f) l n b c
+  pub rows-together : (f : Truth) {fs : List Truth} {l n : ℕ} {b c : Book} → HoldsParts b fs → ShortOfRows rowLimit stepLimit (parts f) l n b c
       → rowLimit < together (f ∷ fs)
   rows-together f H R = rw (← (holds-together f H)) (R .over)

@@ -1,6 +1,6 @@
 -- Lines of the paper, byte by byte.
-use Rattle.report.specs.Report.{replyLine, refusedLine}
-use Rattle.report.specs.declared.fields.Vertex.the-variants.{None, At}
+use Rattle.report.specs.Report.{refusedLine, replyLine}
+use Rattle.report.specs.declared.fields.Vertex.the-variants.{At, None}
 use Rattle.report.specs.declared.fields.Word.the-variants.{Different, Steps}
 use Rattle.text.specs.Decimal.{decimal, digitsWithin}
 use mathlib.Core.List.{[], _∷_}

@@ -1,6 +1,6 @@
 -- Laws of the lines.
-use Prim.Native.Nat.{ℕ, _+_, _^_, _≤_, _<_}
-use Rattle.report.specs.Report.{wordBytes, settingField, vertexField, replyLine, refusedLine, NUMBER-DIGITS, StoredWithin, linePut, lineLength, Printed}
+use Prim.Native.Nat.{_+_, _<_, _^_, _≤_, ℕ}
+use Rattle.report.specs.Report.{NUMBER-DIGITS, Printed, StoredWithin, lineLength, linePut, refusedLine, replyLine, settingField, vertexField, wordBytes}
 use Rattle.report.specs.declared.fields.Vertex.{Vertex}
 use Rattle.report.specs.declared.fields.Word.{Word}
 use Rattle.text.proofs.DecimalLaws.{decimal-length, stored-length}
@@ -8,7 +8,7 @@ use Rattle.text.specs.Decimal.{decimal, written}
 use borrow.Author.Tests.{le-ltb, lt-ltb}
 use lib.ListN.{length}
 use lib.Seq.{length-take-le}
-use mathlib.Core.List.{List, [], _∷_, _++_, append-assoc}
+use mathlib.Core.List.{List, [], _++_, _∷_, append-assoc}
 use mathlib.Core.Path.{_≡_, refl, sym}
 use native.Mathlib.Omega.{arith}
 

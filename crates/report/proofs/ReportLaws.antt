@@ -1,20 +1,20 @@
 -- What a reader finds in the lines.
 use Prim.Native.Nat.{ℕ}
-use Rattle.report.specs.Report.{lineOf, wordBytes, settingField, vertexField, replyFields, replyLine, refusedFields, refusedLine}
-use Rattle.report.specs.declared.fields.Vertex.the-variants.{None, At}
+use Rattle.report.specs.Report.{lineOf, refusedFields, refusedLine, replyFields, replyLine, settingField, vertexField, wordBytes}
+use Rattle.report.specs.declared.fields.Vertex.the-variants.{At, None}
 use Rattle.report.specs.declared.fields.Vertex.{Vertex}
-use Rattle.report.specs.declared.fields.Word.the-variants.{Equal, Different, Size, Rows, Steps, Idle}
+use Rattle.report.specs.declared.fields.Word.the-variants.{Different, Equal, Idle, Rows, Size, Steps}
 use Rattle.report.specs.declared.fields.Word.{Word}
 use Rattle.text.proofs.NumeralLaws.{decimal-lacks, digits-lack}
 use Rattle.text.proofs.SplitLaws.{splitAt-append, splitAt-first, splitAt-join}
 use Rattle.text.specs.Decimal.{decimal}
-use Rattle.text.specs.Numerals.{isDigit, allDigits}
-use Rattle.text.specs.Split.{upTo, splitAt, join, has, anyHas}
+use Rattle.text.specs.Numerals.{allDigits, isDigit}
+use Rattle.text.specs.Split.{anyHas, has, join, splitAt, upTo}
 use lib.Dec.{eqb}
 use lib.ListN.{getD}
-use mathlib.Core.Bool.{Bool, true, false, _||_, or-false}
-use mathlib.Core.List.{List, [], _∷_, _++_, append-assoc}
-use mathlib.Core.Path.{_≡_, refl, ap, sym, _∙_}
+use mathlib.Core.Bool.{Bool, _||_, false, or-false, true}
+use mathlib.Core.List.{List, [], _++_, _∷_, append-assoc}
+use mathlib.Core.Path.{_∙_, _≡_, ap, refl, sym}
 
 -- A byte that two strings lack is not in both together.
 has-append : (k : ℕ) (a b : List ℕ) → has k a ≡ false → has k b ≡ false → has k (a ++ b) ≡ false

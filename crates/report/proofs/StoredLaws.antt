@@ -1,11 +1,11 @@
 -- Laws of bytes stored one after the other.
-use Prim.Native.Nat.{ℕ, _+_, _≤_, _<_}
+use Prim.Native.Nat.{_+_, _<_, _≤_, ℕ}
 use Rattle.report.specs.Report.{StoredWithin}
 use Rattle.text.proofs.DecimalLaws.{stored-append, stored-length, written-one}
-use Rattle.text.specs.Decimal.{written, Stored}
-use lib.ListN.{length, take, getD, set, length-append, take-append-drop}
+use Rattle.text.specs.Decimal.{Stored, written}
+use lib.ListN.{getD, length, length-append, set, take, take-append-drop}
 use lib.Seq.{length-take-le, take-all, take-suc}
-use mathlib.Core.List.{List, [], _∷_, _++_}
+use mathlib.Core.List.{List, [], _++_, _∷_}
 use mathlib.Core.Path.{_≡_, refl, sym}
 use native.Mathlib.Numerals.{add-one}
 use native.Mathlib.Omega.{arith}

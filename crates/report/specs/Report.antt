@@ -1,15 +1,15 @@
 -- The lines that the program prints, as bytes.
-use Prim.Native.Nat.{ℕ, _≤_}
-use Rattle.report.specs.declared.fields.Vertex.the-variants.{None, At}
+use Prim.Native.Nat.{_≤_, ℕ}
+use Rattle.report.specs.declared.fields.Vertex.the-variants.{At, None}
 use Rattle.report.specs.declared.fields.Vertex.{Vertex}
-use Rattle.report.specs.declared.fields.Word.the-variants.{Equal, Different, Size, Rows, Steps, Idle}
+use Rattle.report.specs.declared.fields.Word.the-variants.{Different, Equal, Idle, Rows, Size, Steps}
 use Rattle.report.specs.declared.fields.Word.{Word}
-use Rattle.text.specs.Decimal.{decimal, Stored}
+use Rattle.text.specs.Decimal.{Stored, decimal}
 use Rattle.text.specs.Split.{join}
 use lib.Dec.{ltb}
-use lib.ListN.{length, take, drop}
+use lib.ListN.{drop, length, take}
 use mathlib.Core.Bool.{cond}
-use mathlib.Core.List.{List, [], _∷_, _++_}
+use mathlib.Core.List.{List, [], _++_, _∷_}
 use mathlib.Core.Path.{_≡_}
 
 -- "`rules⇥output⇥reply⇥setting⇥vertex⇥rows⇥steps`": fields as a line, a tab (byte 9) between each two and byte 10 at its end.

@@ -1,8 +1,8 @@
 ghost use Prim.Native.Nat.{_+_, _≤_};
-ghost use Rattle.report.specs.Report.{wordBytes, settingField, vertexField, NUMBER-DIGITS, WORD-LETTERS, StoredWithin};
-ghost use Rattle.text.specs.Decimal.{decimal, Stored};
+ghost use Rattle.report.specs.Report.{NUMBER-DIGITS, StoredWithin, WORD-LETTERS, settingField, vertexField, wordBytes};
+ghost use Rattle.text.specs.Decimal.{Stored, decimal};
 ghost use lib.ListN.{length};
-ghost use mathlib.Core.List.{[], _∷_, _++_};
+ghost use mathlib.Core.List.{[], _++_, _∷_};
 
 // What a reply is called.
 pub enum Word {

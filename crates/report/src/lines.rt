@@ -7,7 +7,7 @@ use crate::fields::put_setting;
 use crate::fields::put_vertex;
 use crate::fields::put_word;
 ghost use Prim.Native.Nat.{_+_};
-ghost use Rattle.report.specs.Report.{headLine, replyLine, refusedLine, LINE-ROOM, Printed};
+ghost use Rattle.report.specs.Report.{LINE-ROOM, Printed, headLine, refusedLine, replyLine};
 ghost use lib.ListN.{length};
 
 // The most bytes of a line beside those of its setting.

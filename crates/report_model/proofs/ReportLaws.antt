@@ -2,7 +2,7 @@
 use Prim.Native.Nat.{_*_, _≤_, ℕ}
 use Rattle.load_model.proofs.LoadLaws.{load-only, load-table}
 use Rattle.load_model.proofs.TableLaws.{table-accepted}
-use Rattle.load_model.specs.Load.{Answer, Room, accepted, loadResult, maxVertices, tableAfter}
+use Rattle.load_model.specs.Load.{Answer, LoadRoom, accepted, loadResult, maxVertices, tableAfter}
 use Rattle.load_model.specs.declared.Tally.{Tally}
 use Rattle.netlist.specs.Check.{readNetlist}
 use Rattle.report_model.specs.Report.{Lent, firstOf, loadRoom, reportOf, reportRoom, reported, rowLimit, short?, shortRoom?, untouched, works?}
@@ -36,7 +36,7 @@ long-enough out rows marks setting h =
     }
 
 -- The table of an accepted load passes tests 10 and 11.
-pub loaded-accepted : (left right : List ℕ) (room : Room) (t : Tally) (old : List ℕ) → loadResult left right room ≡ accepted t
+pub loaded-accepted : (left right : List ℕ) (room : LoadRoom) (t : Tally) (old : List ℕ) → loadResult left right room ≡ accepted t
     → Accepted (tableAfter (loadResult left right room) (readNetlist left) (readNetlist right) old)
 loaded-accepted left right room t old e =
     let h = load-only left right room t e in

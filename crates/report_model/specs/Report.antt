@@ -1,7 +1,7 @@
 -- The report that the program prints of two files, and what its call leaves in the slices that it is lent.
 use Prim.Native.Nat.{_*_, _+_, suc, zero, ℕ}
-use Rattle.compare_model.specs.Compare.{Given, Room, compared, overFront}
-use Rattle.load_model.specs.Load.{Answer, Room as LoadRoom, accepted, loadResult, maxVertices, refused, tableAfter}
+use Rattle.compare_model.specs.Compare.{CompareRoom, Given, compared, overFront}
+use Rattle.load_model.specs.Load.{Answer, LoadRoom, accepted, loadResult, maxVertices, refused, tableAfter}
 use Rattle.netlist.specs.Check.{readNetlist}
 use Rattle.reply_line.specs.Line.{lineFor}
 use Rattle.report.specs.Report.{LINE-ROOM, headLine, refusedLine}
@@ -39,7 +39,7 @@ reportRoom = LINE-ROOM + maxOutputs * replyRoom
 pub record Lent : Type 0 where
   pub out : List ℕ
   pub table : List ℕ
-  pub room : Room
+  pub room : CompareRoom
   pub marks : List ℕ
   pub setting : List ℕ
 

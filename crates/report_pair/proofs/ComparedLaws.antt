@@ -1,6 +1,6 @@
 -- What a comparison leaves is the next one's, and its line is stored.
 use Prim.Native.Nat.{_+_, _≤_, ℕ}
-use Rattle.compare_model.specs.Compare.{Given, Left, Room, compared}
+use Rattle.compare_model.specs.Compare.{CompareRoom, Given, Left, compared}
 use Rattle.compare_model.specs.Said.{saidOf}
 use Rattle.compare_parts.specs.code.Code.{left}
 use Rattle.reply_line.specs.Line.{lineFor}
@@ -17,12 +17,12 @@ use native.Mathlib.Omega.{arith}
 
 -- Working slices of the same lengths.
 pub same-room : {p p' l l' d d' s s' r r' : ℕ} → p' ≡ p → l' ≡ l → d' ≡ d → s' ≡ s → r' ≡ r
-    → _≡_ {A = Room} (record { pairs = p'; look = l'; diagrams = d'; stages = s'; rows = r' }) (record { pairs = p; look = l; diagrams = d; stages = s; rows = r })
+    → _≡_ {A = CompareRoom} (record { pairs = p'; look = l'; diagrams = d'; stages = s'; rows = r' }) (record { pairs = p; look = l; diagrams = d; stages = s; rows = r })
 same-room a b c d e = rw (a, b, c, d, e) refl
 
 module _ (g : Given) (reply : Reply) (table marks setting : List ℕ) (e : left (saidOf reply) table marks setting ≡ compared g) where
   -- What it left is what the next one is given.
-  pub compared-next : (room : Room) → room ≡ g .room
+  pub compared-next : (room : CompareRoom) → room ≡ g .room
       → record { table = table; output = g .output + 1; limits = g .limits; room = room; marks = marks; setting = setting } ≡ next g
   unfolding next
   compared-next room h =

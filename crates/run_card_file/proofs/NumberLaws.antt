@@ -1,6 +1,6 @@
 -- What a turn of the loop that reads a number shows.
 use Prim.Native.Nat.{_*_, _+_, _-_, _<_, _≤_, min, suc, ℕ}
-use Rattle.run_card_file.specs.CardFile.{HIGHEST, numberOf}
+use Rattle.run_card_file.specs.CardFile.{HIGHEST, valueOf}
 use Rattle.text.specs.Numerals.{valueFrom}
 use lib.ListN.{drop, drop-of-length-le, getD, length}
 use lib.Seq.{drop-cons}
@@ -23,8 +23,8 @@ clipped n (b ∷ bs) =
     ∙ clipped (n * 10 + (b - 48)) bs
 
 -- From the start it is the number of all digits.
-pub number-started : (digits : List ℕ) → numberFrom 0 digits ≡ numberOf digits
-unfolding numberFrom numberOf
+pub number-started : (digits : List ℕ) → numberFrom 0 digits ≡ valueOf digits
+unfolding numberFrom valueOf
 number-started digits = refl
 
 with-byte : (n b : ℕ) (bs : List ℕ) → numberFrom n (b ∷ bs) ≡ numberFrom (min (n * 10 + (b - 48)) HIGHEST) bs

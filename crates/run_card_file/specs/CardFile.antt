@@ -14,5 +14,5 @@ abbrev pub HIGHEST : ℕ
 HIGHEST = 2 ^ 32 - 1
 
 -- The number that digits stand for, or the highest of 32 bits where it is higher.
-unfoldable pub numberOf : List ℕ → ℕ
-numberOf digits = min (valueFrom 0 digits) HIGHEST
+unfoldable pub valueOf : List ℕ → ℕ
+valueOf digits = min (valueFrom 0 digits) HIGHEST

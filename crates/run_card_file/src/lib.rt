@@ -1,6 +1,6 @@
 // A file of cards: `%` between the cards, `|` between the fields of a card, `,` between the numbers of a field.
 ghost use Prim.Native.Nat.{_*_, _+_, _-_, min};
-ghost use Rattle.run_card_file.specs.CardFile.{HIGHEST, numberOf, partOf};
+ghost use Rattle.run_card_file.specs.CardFile.{HIGHEST, partOf, valueOf};
 ghost use Rattle.text.specs.Split.{splitAt};
 ghost use lib.ListN.{length};
 ghost use mathlib.Core.Path.{_≡_};
@@ -33,14 +33,14 @@ pub fn number_count(field: &[u8]) -> usize
 
 // Number `k` of a field, or 0 where there are fewer.
 pub fn number_at(field: &[u8], k: usize) -> u32
-    ensures { λ r. ⌜ r ≡ numberOf (partOf 44 (now (field .entry)) k) ⌝ }
+    ensures { λ r. ⌜ r ≡ valueOf (partOf 44 (now (field .entry)) k) ⌝ }
 {
     number(part(field, k, b','))
 }
 
 // The number that digits stand for, or the highest of 32 bits where it is higher.
 pub fn number(digits: &[u8]) -> u32
-    ensures { λ r. ⌜ r ≡ numberOf (now (digits .entry)) ⌝ }
+    ensures { λ r. ⌜ r ≡ valueOf (now (digits .entry)) ⌝ }
 {
     let mut value = 0;
     let mut i = 0;

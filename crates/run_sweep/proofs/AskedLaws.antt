@@ -7,12 +7,12 @@ use Rattle.run_sweep.specs.code.Asked.{Asked, VERTICES}
 use Rattle.sweep_model.specs.Fit.{Downward, Fit}
 use Rattle.sweep_model.specs.State.{Problem, functionOf, literalFunction}
 use Rattle.sweep_parts.specs.code.Ending.{Closed}
-use Rattle.sweep_parts.specs.code.Meet.{Board, board}
-use Rattle.sweep_parts.specs.code.Sheets.{sheets}
+use Rattle.sweep_parts.specs.code.Meet.{Workspace, workspace}
+use Rattle.sweep_parts.specs.code.Arrays.{arrays}
 use Rattle.sweep_parts.specs.code.Words.{posed}
 use Rattle.sweep_parts.specs.declared.end.Ended.{Ended}
 use Rattle.sweep_parts.specs.declared.task.Task.{Task}
-use Rattle.sweep_start.specs.code.Start.{Poses, SweepAsked}
+use Rattle.sweep_start.specs.code.Start.{HasFunctions, SweepAsked}
 use Rattle.table.proofs.FunctionLaws.{function-false, function-first, function-row, functions-perfect, length-functions}
 use Rattle.table.proofs.LayoutLaws.{length-pairs, pairs-at}
 use Rattle.table.specs.Accepted as table
@@ -93,13 +93,13 @@ module _ (t : Task) (pairs : List ℕ) (h : Asked t pairs) where
         sound = record { downward = subst (λ (n : ℕ). Downward (t .first) n pairs) (sym count) (h .downward); means = made-means };
       }
 
-  poses : Poses t functions pairs
-  poses = record { fit = fit; count = count }
+  has-functions : HasFunctions t functions pairs
+  has-functions = record { fit = fit; count = count }
 
   -- The other slices, long enough.
   module _ (places diagrams stages rows marks : List ℕ) where
-    abbrev before : Board
-    before = board pairs (sheets diagrams stages rows marks)
+    abbrev before : Workspace
+    before = workspace pairs (arrays diagrams stages rows marks)
 
     -- The sweep can be asked.
     pub asked : 2 * VERTICES ≤ length places → 2 * VERTICES ≤ length diagrams → 2 * VERTICES ≤ length stages → 4 * LIMIT ≤ length rows → VERTICES ≤ length marks
@@ -107,7 +107,7 @@ module _ (t : Task) (pairs : List ℕ) (h : Asked t pairs) where
     asked places-long diagrams-long stages-long rows-long marks-long =
         record {
           functions = functions;
-          poses = poses;
+          has-functions = poses;
           few = omega (arith, h .named .count);
           narrow = omega (arith, h .named .inputs);
           modest = omega (arith, h .limited .size .1);
@@ -121,5 +121,5 @@ module _ (t : Task) (pairs : List ℕ) (h : Asked t pairs) where
         }
 
     -- What the words are where it has ended.
-    pub closed : (after : Board) (r : Ended) → Sweeps t before after r → Closed t functions after (r .used) (r .steps) (r .end)
+    pub closed : (after : Workspace) (r : Ended) → Sweeps t before after r → Closed t functions after (r .used) (r .steps) (r .end)
     closed after r sweeps = sweeps functions poses .closed

@@ -1,10 +1,10 @@
 -- The whole sweep: its end is the model's answer.
 use Prim.Native.Nat.{ℕ}
-use Rattle.sweep_model.specs.Sweep.{Progress, andThen, answerOf, cause, go, sweep}
+use Rattle.sweep_model.specs.Sweep.{Progress, andThen, cause, go, resultOf, sweep}
 use Rattle.sweep_model.specs.declared.Cause.{Cause}
 use Rattle.sweep_parts.specs.code.Cause.{causeBy}
 use Rattle.sweep_parts.specs.code.Ending.{verdictOf}
-use Rattle.sweep_parts.specs.code.Meet.{Board}
+use Rattle.sweep_parts.specs.code.Meet.{Workspace}
 use Rattle.sweep_parts.specs.code.Words.{posed}
 use Rattle.sweep_parts.specs.declared.end.End.the-variants.{Undecided}
 use Rattle.sweep_parts.specs.declared.end.End.{End}
@@ -12,7 +12,7 @@ use Rattle.sweep_parts.specs.declared.end.Ended as result
 use Rattle.sweep_parts.specs.declared.task.Task.{Task}
 use Rattle.sweep_start.specs.code.Start.{Starts, SweepAsked}
 use Rattle.sweep_turn.proofs.EndModel.{represents-closed}
-use Rattle.sweep_turn.specs.code.Turn.{Goes, RestIn, firstScene}
+use Rattle.sweep_turn.specs.code.Turn.{Goes, RestIn, firstContext}
 use Rattle.sweep_turn.specs.declared.visit.Going.the-variants.{Ended, On}
 use Rattle.sweep_turn.specs.declared.visit.Going.{Going}
 use Rattle.sweep.specs.code.Sweep.{Rests, Sweeps}
@@ -23,50 +23,50 @@ use mathlib.Core.Path.{_∙_, _≡_, ap, subst}
 abbrev pub endedWith : End → ℕ → ℕ → result.Ended
 endedWith e used steps = record { end = e; used = used; steps = steps }
 
-module _ (t : Task) (used steps : ℕ) (b after : Board) {g : Going} (goes : Goes t used steps b after g) where
+module _ (t : Task) (used steps : ℕ) (b after : Workspace) {g : Going} (goes : Goes t used steps b after g) where
   -- None waits: undecided, by the cause.
   pub rest-answers :
-      {more taken : ℕ} {c : Cause} → g ≡ On more taken → c ≡ causeBy (after .sheets .stages) (t .count)
+      {more taken : ℕ} {c : Cause} → g ≡ On more taken → c ≡ causeBy (after .arrays .stages) (t .count)
       → Rests t used steps b after (endedWith (Undecided c) more taken)
-  unfolding answerOf cause causeBy verdictOf
+  unfolding resultOf cause causeBy verdictOf
   rest-answers h e = λ x o.
       let r = subst (Goes t used steps b after) h goes x o in
-      record { answer = rw e (ap answerOf (r .reached)); closed = represents-closed (r .represents) tt }
+      record { answer = rw e (ap resultOf (r .reached)); closed = represents-closed (r .represents) tt }
 
   -- A turn ended the sweep.
   pub turn-answers : {more taken : ℕ} {e : End} → g ≡ Ended e more taken → Rests t used steps b after (endedWith e more taken)
-  unfolding answerOf
+  unfolding resultOf
   turn-answers h = λ x o.
       let r = subst (Goes t used steps b after) h goes x o in
-      record { answer = ap answerOf (r .reached); closed = r .closed }
+      record { answer = ap resultOf (r .reached); closed = r .closed }
 
-module _ (t : Task) (b middle : Board) {g : Going} (starts : Starts t b middle g) where
+module _ (t : Task) (b middle : Workspace) {g : Going} (starts : Starts t b middle g) where
   module _ {used steps : ℕ} (h : g ≡ On used steps) where
     -- The first turn can begin.
     pub start-rests : {places : List ℕ} → SweepAsked t places b → RestIn t used steps middle
     start-rests a =
         record {
-          scene = firstScene t (a .functions) (b .pairs) middle used steps;
-          on = subst (Starts t b middle) h starts (a .functions) (a .poses) .rests;
+          context = firstContext t (a .functions) (b .pairs) middle used steps;
+          on = subst (Starts t b middle) h starts (a .functions) (a .has-functions) .rests;
         }
 
     -- The turns answer.
-    pub sweep-goes-on : (after : Board) {r : result.Ended} → Rests t used steps middle after r → Sweeps t b after r
+    pub sweep-goes-on : (after : Workspace) {r : result.Ended} → Rests t used steps middle after r → Sweeps t b after r
     unfolding andThen go sweep
     sweep-goes-on after rests = λ functions poses.
         let s = subst (Starts t b middle) h starts functions poses in
-        let r = rests (firstScene t functions (b .pairs) middle used steps) (s .rests) in
+        let r = rests (firstContext t functions (b .pairs) middle used steps) (s .rests) in
         record {
-          answer = ap (λ (o : Progress). answerOf (andThen o (go (posed t functions)))) (s .reached) ∙ r .answer;
+          answer = ap (λ (o : Progress). resultOf (andThen o (go (posed t functions)))) (s .reached) ∙ r .answer;
           closed = r .closed;
         }
 
   -- The start ended the sweep.
   pub start-answers : {used steps : ℕ} {e : End} → g ≡ Ended e used steps → Sweeps t b middle (endedWith e used steps)
-  unfolding andThen answerOf sweep
+  unfolding andThen resultOf sweep
   start-answers h = λ functions poses.
       let s = subst (Starts t b middle) h starts functions poses in
       record {
-        answer = ap (λ (o : Progress). answerOf (andThen o (go (posed t functions)))) (s .reached);
+        answer = ap (λ (o : Progress). resultOf (andThen o (go (posed t functions)))) (s .reached);
         closed = s .closed;
       }

@@ -7,8 +7,8 @@ use sweep_start::start::start;
 use sweep_turn::turn::go;
 use sweep_turn::visit::Going;
 ghost use Prim.Native.Nat.{_*_, _≤_};
-ghost use Rattle.sweep_parts.specs.code.Meet.{board};
-ghost use Rattle.sweep_parts.specs.code.Sheets.{sheets};
+ghost use Rattle.sweep_parts.specs.code.Meet.{workspace};
+ghost use Rattle.sweep_parts.specs.code.Arrays.{arrays};
 ghost use Rattle.sweep_start.specs.code.Start.{SweepAsked};
 ghost use Rattle.sweep_turn.specs.code.Turn.{RestIn};
 ghost use Rattle.sweep.specs.code.Sweep.{Rests, Sweeps};
@@ -26,9 +26,9 @@ fn finish(
     used: usize,
     steps: usize,
 ) -> Ended
-    requires rest { ⌜ RestIn task used steps (board (now pairs) (sheets (now diagrams) (now stages) (now rows) (now marks))) ⌝ }
+    requires rest { ⌜ RestIn task used steps (workspace (now pairs) (arrays (now diagrams) (now stages) (now rows) (now marks))) ⌝ }
     requires long { ⌜ 2 * task .count ≤ length (now places) ⌝ }
-    ensures { λ r. ⌜ Rests task used steps (board (now (pairs .entry)) (sheets (now (diagrams .entry)) (now (stages .entry)) (now (rows .entry)) (now (marks .entry)))) (board (now (pairs .exit)) (sheets (now (diagrams .exit)) (now (stages .exit)) (now (rows .exit)) (now (marks .exit)))) r ⌝ }
+    ensures { λ r. ⌜ Rests task used steps (workspace (now (pairs .entry)) (arrays (now (diagrams .entry)) (now (stages .entry)) (now (rows .entry)) (now (marks .entry)))) (workspace (now (pairs .exit)) (arrays (now (diagrams .exit)) (now (stages .exit)) (now (rows .exit)) (now (marks .exit)))) r ⌝ }
 {
     let going = go(
         pairs,
@@ -61,8 +61,8 @@ pub fn sweep(
     marks: &mut [u8],
     task: Task,
 ) -> Ended
-    requires { ⌜ SweepAsked task (now places) (board (now pairs) (sheets (now diagrams) (now stages) (now rows) (now marks))) ⌝ }
-    ensures { λ r. ⌜ Sweeps task (board (now (pairs .entry)) (sheets (now (diagrams .entry)) (now (stages .entry)) (now (rows .entry)) (now (marks .entry)))) (board (now (pairs .exit)) (sheets (now (diagrams .exit)) (now (stages .exit)) (now (rows .exit)) (now (marks .exit)))) r ⌝ }
+    requires { ⌜ SweepAsked task (now places) (workspace (now pairs) (arrays (now diagrams) (now stages) (now rows) (now marks))) ⌝ }
+    ensures { λ r. ⌜ Sweeps task (workspace (now (pairs .entry)) (arrays (now (diagrams .entry)) (now (stages .entry)) (now (rows .entry)) (now (marks .entry)))) (workspace (now (pairs .exit)) (arrays (now (diagrams .exit)) (now (stages .exit)) (now (rows .exit)) (now (marks .exit)))) r ⌝ }
 {
     let started = start(pairs, places, diagrams, stages, rows, marks, task);
     match started {

@@ -1,17 +1,17 @@
 -- The words that a sweep begins with are the model's beginning.
-use Prim.Native.Nat.{ℕ, _*_, _<_, _≤_}
+use Prim.Native.Nat.{_*_, _<_, _≤_, ℕ}
 use Rattle.aig.specs.Lookup.{cleared}
 use Rattle.bdd.specs.code.Rows.{RADIX}
 use Rattle.sweep_graph.proofs.StageLaws.{stage-at, stage-word, stages-length, stages-set}
 use Rattle.sweep_graph.specs.code.Begin.{begun}
 use Rattle.sweep_graph.specs.code.Stages.{stageWord, stagesOf, wordStage}
-use Rattle.sweep_graph.specs.code.Takes.{Room, held}
+use Rattle.sweep_graph.specs.code.Takes.{TakesRoom, held}
 use Rattle.sweep_model.specs.State.{Problem, Stage, bare, gone, opened, stageOf}
 use Rattle.sweep_model.specs.Sweep.{begin}
 use lib.ListN.{List·getD-append, drop, getD, getD-replicate, length, length-append, length-drop, length-replicate, length-set, replicate, set, take}
 use lib.Seq.{ext-getD, take-at}
 use mathlib.Core.List.{List}
-use mathlib.Core.Path.{_≡_, _∙_, ap, sym}
+use mathlib.Core.Path.{_∙_, _≡_, ap, sym}
 use native.Mathlib.Omega.{arith}
 
 -- A cleared word is 0.
@@ -58,7 +58,7 @@ module _ (p : Problem) (rows : List ℕ) where
 -- There is room for handing over.
 pub begin-room :
     (count : ℕ) (stages diagrams rows : List ℕ) → 2 * count ≤ length stages → 2 * count ≤ length diagrams → count ≤ RADIX
-    → Room count (held (begun stages count) (cleared diagrams (2 * count)) rows)
+    → TakesRoom count (held (begun stages count) (cleared diagrams (2 * count)) rows)
 begin-room count stages diagrams rows stages-long diagrams-long few =
     record {
       stages-long =

@@ -1,5 +1,5 @@
 -- What handing over keeps of the diagrams and of their rows.
-use Prim.Native.Nat.{ℕ, _*_, _+_, _/_, _<_, _≤_, suc, zero}
+use Prim.Native.Nat.{_*_, _+_, _/_, _<_, _≤_, suc, zero, ℕ}
 use Rattle.aig.proofs.IndexLaws.{row-holds}
 use Rattle.aig.specs.Literal.{vertexOf}
 use Rattle.aig.specs.Lookup.{firstWord, secondWord, withRow}
@@ -10,7 +10,7 @@ use Rattle.sweep_graph.proofs.StageLaws.{stage-word}
 use Rattle.sweep_graph.proofs.TakeLaws.{handed-room, take-room}
 use Rattle.sweep_graph.specs.code.Graph.{Graph}
 use Rattle.sweep_graph.specs.code.Stages.{stageWord, withStage, wordStage}
-use Rattle.sweep_graph.specs.code.Takes.{Held, Room, handedOver, hasWord, held, leave, takeWords, takenDiagrams, takesWords, wakeWords}
+use Rattle.sweep_graph.specs.code.Takes.{Held, TakesRoom, handedOver, hasWord, held, leave, takeWords, takenDiagrams, takesWords, wakeWords}
 use Rattle.sweep_model.proofs.Rows.{row-other}
 use Rattle.sweep_model.specs.Normalise.{merged?, wake}
 use Rattle.sweep_model.specs.State.{gone, gone?, has?}
@@ -21,7 +21,7 @@ use lib.Seq.{getD-set-other, getD-set-same}
 use mathlib.Core.Bool.{Bool, cond, false, true}
 use mathlib.Core.List.{List}
 use mathlib.Core.Logic.{_≢_}
-use mathlib.Core.Path.{_≡_, _∙_, ap, refl, sym}
+use mathlib.Core.Path.{_∙_, _≡_, ap, refl, sym}
 use native.Mathlib.Decide.{ℕ-discrete}
 use native.Mathlib.Omega.{arith}
 
@@ -41,7 +41,7 @@ module _ (Q : ℕ → ℕ → ℕ → Type 0) (count : ℕ) where
   Drawn h = (u : ℕ) → u < count → hasWord (h .stages) u ≡ true → Q u (firstWord (h .diagrams) u) (secondWord (h .diagrams) u)
 
   module _
-      (v x : ℕ) (h : Held) (lv : v < count) (lw : vertexOf x < count) (r : Room count h) (over : (c s : ℕ) → Q v c s → Q (vertexOf x) (edge c x) s)
+      (v x : ℕ) (h : Held) (lv : v < count) (lw : vertexOf x < count) (r : TakesRoom count h) (over : (c s : ℕ) → Q v c s → Q (vertexOf x) (edge c x) s)
       (d : Drawn h) where
     still : (u : ℕ) → u ≢ vertexOf x → hasWord (wakeWords (vertexOf x) (h .stages)) u ≡ true → hasWord (h .stages) u ≡ true
     still u n has = sym (ap (λ (s : ℕ). has? (wordStage s)) (wake-other (vertexOf x) u (h .stages) n)) ∙ has
@@ -84,7 +84,7 @@ module _ (Q : ℕ → ℕ → ℕ → Type 0) (count : ℕ) where
         go false mine false its = d
 
   -- A vertex that is gone has no diagram.
-  left-drawn : (v : ℕ) (h : Held) → v < count → Room count h → Drawn h → Drawn (leave v h)
+  left-drawn : (v : ℕ) (h : Held) → v < count → TakesRoom count h → Drawn h → Drawn (leave v h)
   unfolding has?
   left-drawn v h lv r d u l has =
       elim (ℕ-discrete u v) [
@@ -95,7 +95,7 @@ module _ (Q : ℕ → ℕ → ℕ → Type 0) (count : ℕ) where
 
   -- One vertex's turn.
   take-drawn :
-      (pairs : List ℕ) (v : ℕ) (h : Held) → v < count → vertexOf (firstWord pairs v) < count → Room count h
+      (pairs : List ℕ) (v : ℕ) (h : Held) → v < count → vertexOf (firstWord pairs v) < count → TakesRoom count h
       → (merged? pairs v ≡ true → (c s : ℕ) → Q v c s → Q (vertexOf (firstWord pairs v)) (edge c (firstWord pairs v)) s) → Drawn h
       → Drawn (takeWords pairs v h)
   unfolding takeWords
@@ -112,7 +112,7 @@ module _ (Q : ℕ → ℕ → ℕ → Type 0) (count : ℕ) where
   pub takes-drawn :
       {pairs : List ℕ} {first : ℕ} → Graph first count pairs
       → ((v c s : ℕ) → first ≤ v → v < count → merged? pairs v ≡ true → Q v c s → Q (vertexOf (firstWord pairs v)) (edge c (firstWord pairs v)) s)
-      → (n v : ℕ) (h : Held) → first ≤ v → v + n ≤ count → Room count h → Drawn h → Drawn (takesWords pairs v n h)
+      → (n v : ℕ) (h : Held) → first ≤ v → v + n ≤ count → TakesRoom count h → Drawn h → Drawn (takesWords pairs v n h)
   unfolding takesWords
   takes-drawn g over zero v h from to r d = d
   takes-drawn {pairs} {first} g over (suc n) v h from to r d =
@@ -130,7 +130,7 @@ module _ (R : List ℕ → Type 0) (count : ℕ) (owned : (rows : List ℕ) (i w
   owner-kept rows (suc i) w within few r = owned rows (suc i) w (omega arith) within few r
 
   take-rows :
-      (pairs : List ℕ) (v : ℕ) (h : Held) → v < count → vertexOf (firstWord pairs v) < count → Room count h → R (h .rows) → R (takeWords pairs v h .rows)
+      (pairs : List ℕ) (v : ℕ) (h : Held) → v < count → vertexOf (firstWord pairs v) < count → TakesRoom count h → R (h .rows) → R (takeWords pairs v h .rows)
   unfolding takeWords handedOver
   take-rows pairs v h lv lw room r =
       go (merged? pairs v) (gone? (wordStage (firstWord (h .stages) v))) (hasWord (h .stages) v) (hasWord (h .stages) (vertexOf (firstWord pairs v)))
@@ -155,7 +155,7 @@ module _ (R : List ℕ → Type 0) (count : ℕ) (owned : (rows : List ℕ) (i w
 
   -- n vertices' turns.
   pub takes-rows :
-      {pairs : List ℕ} {first : ℕ} → Graph first count pairs → (n v : ℕ) (h : Held) → first ≤ v → v + n ≤ count → Room count h → R (h .rows)
+      {pairs : List ℕ} {first : ℕ} → Graph first count pairs → (n v : ℕ) (h : Held) → first ≤ v → v + n ≤ count → TakesRoom count h → R (h .rows)
       → R (takesWords pairs v n h .rows)
   unfolding takesWords
   takes-rows g zero v h from to room r = r

@@ -1,5 +1,5 @@
 -- Merging and normalising keep a working graph what it is.
-use Prim.Native.Nat.{ℕ, _*_, _-_, _<_, _≤_}
+use Prim.Native.Nat.{_*_, _-_, _<_, _≤_, ℕ}
 use Rattle.sweep_graph.specs.code.Graph.{Graph}
 use Rattle.sweep_model.proofs.Rows.{row-downward}
 use Rattle.sweep_model.proofs.Settle.{renewed}

@@ -1,5 +1,5 @@
 -- What a literal became, one turn of normalising, and the pass from turn to turn.
-use Prim.Native.Nat.{ℕ, _*_, _+_, _-_, _<_, _≤_, suc, zero}
+use Prim.Native.Nat.{_*_, _+_, _-_, _<_, _≤_, suc, zero, ℕ}
 use Rattle.aig.proofs.FoldLaws.{pair-unfolded}
 use Rattle.aig.proofs.IndexLaws.{clear-starts, enter-keeps, equal-keeps}
 use Rattle.aig.specs.Fold.{foldOf}
@@ -18,7 +18,7 @@ use borrow.Author.Tests.{eq-eqb, ne-eqb}
 use lib.ListN.{length}
 use mathlib.Core.Bool.{false}
 use mathlib.Core.List.{List}
-use mathlib.Core.Path.{_≡_, _∙_, ap, ap₂, refl, sym}
+use mathlib.Core.Path.{_∙_, _≡_, ap, ap₂, refl, sym}
 use native.Mathlib.Omega.{arith}
 
 -- The number of a literal.

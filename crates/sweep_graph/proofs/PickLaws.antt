@@ -1,17 +1,17 @@
 -- What is picked, and that it is the model's pick.
-use Prim.Native.Nat.{ℕ, _+_, _-_, _<_, _≤_, suc, zero}
+use Prim.Native.Nat.{_+_, _-_, _<_, _≤_, suc, zero, ℕ}
 use Rattle.aig.specs.Lookup.{firstWord, secondWord}
 use Rattle.sweep_graph.specs.code.Pick.{leastFrom, lesser, pickHere, twinOf}
 use Rattle.sweep_graph.specs.code.Stages.{stagesFrom, stagesOf, wordStage}
 use Rattle.sweep_graph.specs.declared.pick.Picked.the-variants.{At, None}
 use Rattle.sweep_graph.specs.declared.pick.Picked.{Picked}
 use Rattle.sweep_model.specs.State.{Problem, functionOf, waits?}
-use Rattle.sweep_model.specs.Sweep.{Twin, at, pickFrom, smaller}
+use Rattle.sweep_model.specs.Sweep.{Candidate, at, pickFrom, smaller}
 use Rattle.truth.specs.Parts.{size}
 use lib.Dec.{leb}
 use mathlib.Core.Bool.{Bool, cond, false, true}
 use mathlib.Core.List.{List}
-use mathlib.Core.Path.{_≡_, _∙_, ap, ap₂, refl, subst}
+use mathlib.Core.Path.{_∙_, _≡_, ap, ap₂, refl, subst}
 use native.Mathlib.Omega.{arith}
 
 -- Vertex w waits, and is one of n vertices from v on.
@@ -82,7 +82,7 @@ module _ (p : Problem) (stages diagrams : List ℕ) where
       (waits? (wordStage (firstWord stages v))) refl
     where
       go :
-          (q : Picked) → ((w : ℕ) → q ≡ At w → secondWord diagrams w ≡ size (functionOf p w)) → {t : Twin} → twinOf q ≡ t → (b : Bool)
+          (q : Picked) → ((w : ℕ) → q ≡ At w → secondWord diagrams w ≡ size (functionOf p w)) → {t : Candidate} → twinOf q ≡ t → (b : Bool)
           → waits? (wordStage (firstWord stages v)) ≡ b
           → twinOf (cond b (At (lesser diagrams v q)) q) ≡ cond b (at (smaller p v t)) t
       go q there e true h =

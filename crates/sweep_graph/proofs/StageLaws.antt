@@ -1,5 +1,5 @@
 -- Words of stages, one and many.
-use Prim.Native.Nat.{ℕ, _*_, _+_, _<_, _≤_, suc, zero}
+use Prim.Native.Nat.{_*_, _+_, _<_, _≤_, suc, zero, ℕ}
 use Rattle.aig.specs.Lookup.{firstWord}
 use Rattle.sweep_graph.specs.code.Stages.{stageWord, stagesFrom, stagesOf, withStage, wordStage}
 use Rattle.sweep_model.specs.Normalise.{wake}
@@ -11,7 +11,7 @@ use lib.ListN.{getD, length, length-set, set}
 use lib.Seq.{ext-getD, getD-set-other, getD-set-same}
 use mathlib.Core.Bool.{false, true}
 use mathlib.Core.List.{List}
-use mathlib.Core.Path.{_≡_, _∙_, ap, refl, sym}
+use mathlib.Core.Path.{_∙_, _≡_, ap, refl, sym}
 use native.Mathlib.Decide.{ℕ-discrete}
 use native.Mathlib.Omega.{arith}
 

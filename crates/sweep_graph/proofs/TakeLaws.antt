@@ -1,5 +1,5 @@
 -- Handing over: what the code's steps come to, and the pass from turn to turn.
-use Prim.Native.Nat.{ℕ, _*_, _+_, _-_, _/_, _<_, _≤_, suc, zero}
+use Prim.Native.Nat.{_*_, _+_, _-_, _/_, _<_, _≤_, suc, zero, ℕ}
 use Rattle.aig.proofs.IndexLaws.{row-holds, row-length}
 use Rattle.aig.specs.Literal.{vertexOf}
 use Rattle.aig.specs.Lookup.{firstWord, secondWord, withRow}
@@ -9,7 +9,7 @@ use Rattle.bdd.specs.code.Owners.{withOwner}
 use Rattle.bdd.specs.code.Rows.{RADIX, highAt}
 use Rattle.sweep_graph.specs.code.Graph.{Graph}
 use Rattle.sweep_graph.specs.code.Stages.{stageWord, withStage, wordStage}
-use Rattle.sweep_graph.specs.code.Takes.{Handing, Held, Room, handedOver, hasWord, held, leave, takeWords, takenDiagrams, takesWords, wakeWords}
+use Rattle.sweep_graph.specs.code.Takes.{Handing, Held, TakesRoom, handedOver, hasWord, held, leave, takeWords, takenDiagrams, takesWords, wakeWords}
 use Rattle.sweep_model.proofs.Rows.{row-other}
 use Rattle.sweep_model.specs.Normalise.{merged?, wake}
 use Rattle.sweep_model.specs.State.{gone, gone?, has?}
@@ -18,7 +18,7 @@ use lib.Dec.{eqb}
 use lib.ListN.{length, length-set}
 use mathlib.Core.Bool.{Bool, cond, false, true}
 use mathlib.Core.List.{List}
-use mathlib.Core.Path.{_≡_, _∙_, ap, refl, sym}
+use mathlib.Core.Path.{_∙_, _≡_, ap, refl, sym}
 use native.Mathlib.Decide.{ℕ-discrete}
 use native.Mathlib.Numerals.{add-one}
 use native.Mathlib.Omega.{arith}
@@ -104,15 +104,15 @@ unfolding edge
 edge-row c r = omega arith
 
 module _ {count : ℕ} where
-  -- Room for other stages of the same number.
-  room-stages : {h : Held} (stages : List ℕ) → Room count h → length stages ≡ length (h .stages) → Room count (held stages (h .diagrams) (h .rows))
+  -- TakesRoom for other stages of the same number.
+  room-stages : {h : Held} (stages : List ℕ) → TakesRoom count h → length stages ≡ length (h .stages) → TakesRoom count (held stages (h .diagrams) (h .rows))
   room-stages stages r e =
       record { stages-long = rw e (r .stages-long); diagrams-long = r .diagrams-long; rows-within = r .rows-within; few = r .few }
 
-  -- Room for a given diagram.
+  -- TakesRoom for a given diagram.
   room-diagram :
-      (v w x s : ℕ) {h : Held} → v < count → w < count → Room count h
-      → Room count (held (h .stages) (withRow (h .diagrams) w (edge (firstWord (h .diagrams) v) x) s) (h .rows))
+      (v w x s : ℕ) {h : Held} → v < count → w < count → TakesRoom count h
+      → TakesRoom count (held (h .stages) (withRow (h .diagrams) w (edge (firstWord (h .diagrams) v) x) s) (h .rows))
   room-diagram v w x s {h} lv lw r =
       record {
         stages-long = r .stages-long;
@@ -128,8 +128,8 @@ module _ {count : ℕ} where
       fits : 2 * w + 1 < length (h .diagrams)
       fits = omega (arith, r .diagrams-long)
 
-  -- Room with another owner of a row.
-  room-owner : (i x : ℕ) {h : Held} → Room count h → Room count (held (h .stages) (h .diagrams) (withOwner (h .rows) i x))
+  -- TakesRoom with another owner of a row.
+  room-owner : (i x : ℕ) {h : Held} → TakesRoom count h → TakesRoom count (held (h .stages) (h .diagrams) (withOwner (h .rows) i x))
   room-owner i x {h} r =
       record {
         stages-long = r .stages-long;
@@ -139,14 +139,14 @@ module _ {count : ℕ} where
       }
 
   -- Handing over keeps the room.
-  pub handed-room : (v x : ℕ) (h : Held) → v < count → vertexOf x < count → Room count h → Room count (handedOver v x h)
+  pub handed-room : (v x : ℕ) (h : Held) → v < count → vertexOf x < count → TakesRoom count h → TakesRoom count (handedOver v x h)
   unfolding handedOver takenDiagrams
   handed-room v x h lv lw r = go (hasWord (h .stages) v) (hasWord (h .stages) (vertexOf x))
     where
-      woken : Room count (held (wakeWords (vertexOf x) (h .stages)) (h .diagrams) (h .rows))
+      woken : TakesRoom count (held (wakeWords (vertexOf x) (h .stages)) (h .diagrams) (h .rows))
       woken = room-stages (wakeWords (vertexOf x) (h .stages)) r (length-wake (vertexOf x) (h .stages))
 
-      go : (a b : Bool) → Room count
+      go : (a b : Bool) → TakesRoom count
           (cond a
           (held (wakeWords (vertexOf x) (h .stages))
           (cond b (h .diagrams) (withRow (h .diagrams) (vertexOf x) (edge (firstWord (h .diagrams) v) x) (secondWord (h .diagrams) v)))
@@ -159,11 +159,11 @@ module _ {count : ℕ} where
 
   -- So does one vertex's turn.
   pub take-room :
-      (pairs : List ℕ) (v : ℕ) (h : Held) → v < count → vertexOf (firstWord pairs v) < count → Room count h → Room count (takeWords pairs v h)
+      (pairs : List ℕ) (v : ℕ) (h : Held) → v < count → vertexOf (firstWord pairs v) < count → TakesRoom count h → TakesRoom count (takeWords pairs v h)
   unfolding takeWords
   take-room pairs v h lv lw r = go (merged? pairs v) (gone? (wordStage (firstWord (h .stages) v)))
     where
-      go : (a b : Bool) → Room count (cond a (cond b h (leave v (handedOver v (firstWord pairs v) h))) h)
+      go : (a b : Bool) → TakesRoom count (cond a (cond b h (leave v (handedOver v (firstWord pairs v) h))) h)
       go true true = r
       go true false =
           room-stages (withStage (handedOver v (firstWord pairs v) h .stages) v (stageWord gone)) (handed-room v (firstWord pairs v) h lv lw r)
@@ -173,7 +173,7 @@ module _ {count : ℕ} where
 -- The pass before vertex v.
 pub record Taking (pairs : List ℕ) (first count : ℕ) (h₀ h : Held) (v : ℕ) : Type 0 where
   pub ahead : takesWords pairs v (count - v) h ≡ takesWords pairs first (count - first) h₀
-  pub room : Room count h
+  pub room : TakesRoom count h
   pub from : first ≤ v
   pub to : v ≤ count
   pub same-stages : length (h .stages) ≡ length (h₀ .stages)
@@ -187,7 +187,7 @@ takes-more pairs v n h = ap (λ (u : ℕ). takesWords pairs u n (takeWords pairs
 
 module _ {pairs : List ℕ} {first count : ℕ} (g : Graph first count pairs) where
   -- The pass begins with all ahead.
-  pub taking-begins : {h : Held} → Room count h → Taking pairs first count h h first
+  pub taking-begins : {h : Held} → TakesRoom count h → Taking pairs first count h h first
   taking-begins r =
       record { ahead = refl; room = r; from = omega arith; to = g .first-within; same-stages = refl; same-diagrams = refl; same-rows = refl }
 
@@ -233,8 +233,8 @@ module _ {pairs : List ℕ} {first count : ℕ} (g : Graph first count pairs) wh
 
 -- A pass keeps the room.
 pub takes-room :
-    {pairs : List ℕ} {first count : ℕ} → Graph first count pairs → (n v : ℕ) (h : Held) → first ≤ v → v + n ≤ count → Room count h
-    → Room count (takesWords pairs v n h)
+    {pairs : List ℕ} {first count : ℕ} → Graph first count pairs → (n v : ℕ) (h : Held) → first ≤ v → v + n ≤ count → TakesRoom count h
+    → TakesRoom count (takesWords pairs v n h)
 unfolding takesWords
 takes-room g zero v h from to r = r
 takes-room {pairs} {first} {count} g (suc n) v h from to r =

@@ -1,5 +1,5 @@
 -- Handing over by words is the model's handing over of stages.
-use Prim.Native.Nat.{ℕ, _*_, _+_, _-_, _<_, _≤_, suc, zero}
+use Prim.Native.Nat.{_*_, _+_, _-_, _<_, _≤_, suc, zero, ℕ}
 use Rattle.aig.specs.Literal.{vertexOf}
 use Rattle.aig.specs.Lookup.{firstWord}
 use Rattle.sweep_graph.proofs.GraphLaws.{graph-kept}
@@ -7,14 +7,14 @@ use Rattle.sweep_graph.proofs.StageLaws.{stage-at, stage-word, stages-l
 use Rattle.sweep_graph.proofs.TakeLaws.{handed-room, take-room}
 use Rattle.sweep_graph.specs.code.Graph.{Graph}
 use Rattle.sweep_graph.specs.code.Stages.{stageWord, stagesOf, wordStage}
-use Rattle.sweep_graph.specs.code.Takes.{Held, Room, handedOver, hasWord, leave, takeWords, takesWords, wakeWords}
+use Rattle.sweep_graph.specs.code.Takes.{Held, TakesRoom, handedOver, hasWord, leave, takeWords, takesWords, wakeWords}
 use Rattle.sweep_model.specs.Normalise.{merged?, normalise, normaliseFrom, takeAt, takesFrom, wake, wakeAt}
 use Rattle.sweep_model.specs.State.{Stage, State, gone, gone?, has?, stageOf}
 use borrow.Author.Tests.{ne-eqb}
 use lib.ListN.{length, set}
 use mathlib.Core.Bool.{Bool, _&&_, _||_, cond, false, not, true}
 use mathlib.Core.List.{List}
-use mathlib.Core.Path.{_≡_, _∙_, ap, ap₂, refl, sym}
+use mathlib.Core.Path.{_∙_, _≡_, ap, ap₂, refl, sym}
 use native.Mathlib.Omega.{arith}
 
 -- A vertex waits again.
@@ -26,7 +26,7 @@ wake-models count (suc w) stages l room =
     (stages-set stages count (suc w) (stageWord (wake (wordStage (firstWord stages (suc w))))) l room
     ∙ ap (set (stagesOf stages count) (suc w)) (stage-word (wake (wordStage (firstWord stages (suc w)))) ∙ ap wake (sym (stage-at stages count (suc w) l))))
 
-module _ (count : ℕ) (pairs : List ℕ) (v : ℕ) (h : Held) (within : v < count) (target : vertexOf (firstWord pairs v) < count) (r : Room count h) where
+module _ (count : ℕ) (pairs : List ℕ) (v : ℕ) (h : Held) (within : v < count) (target : vertexOf (firstWord pairs v) < count) (r : TakesRoom count h) where
   abbrev w : ℕ
   w = vertexOf (firstWord pairs v)
 
@@ -78,7 +78,7 @@ module _ (count : ℕ) (pairs : List ℕ) (v : ℕ) (h : Held) (within : v < cou
 
 -- n vertices' turns.
 pub takes-models :
-    {pairs : List ℕ} {first count : ℕ} → Graph first count pairs → (n v : ℕ) (h : Held) → first ≤ v → v + n ≤ count → Room count h
+    {pairs : List ℕ} {first count : ℕ} → Graph first count pairs → (n v : ℕ) (h : Held) → first ≤ v → v + n ≤ count → TakesRoom count h
     → stagesOf (takesWords pairs v n h .stages) count ≡ takesFrom pairs v n (stagesOf (h .stages) count)
 unfolding takesWords takesFrom
 takes-models g zero v h from to r = refl
@@ -89,7 +89,7 @@ takes-models {pairs} {first} {count} g (suc n) v h from to r =
     ∙ ap (takesFrom pairs (suc v) n) (take-models count pairs v h within target r)
 
 -- Normalising and then handing over is the model's normalising.
-module _ {first count : ℕ} (s : State) (h : Held) (g : Graph first count (s .rows)) (r : Room count h) (same : s .stages ≡ stagesOf (h .stages) count) where
+module _ {first count : ℕ} (s : State) (h : Held) (g : Graph first count (s .rows)) (r : TakesRoom count h) (same : s .stages ≡ stagesOf (h .stages) count) where
   made : length (s .stages) - first ≡ count - first
   made = ap (λ (l : List Stage). length l - first) same ∙ ap (λ (n : ℕ). n - first) (stages-length (h .stages) count)
 

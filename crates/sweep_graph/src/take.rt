@@ -16,7 +16,7 @@ ghost use Rattle.aig.specs.Lookup.{firstWord};
 ghost use Rattle.bdd.specs.code.Owners.{withOwner};
 ghost use Rattle.bdd.specs.code.Rows.{RADIX};
 ghost use Rattle.sweep_graph.specs.code.Graph.{Graph};
-ghost use Rattle.sweep_graph.specs.code.Takes.{Handing, Room, handedOver, held, takeWords, takesWords, takenDiagrams, wakeWords};
+ghost use Rattle.sweep_graph.specs.code.Takes.{Handing, TakesRoom, handedOver, held, takeWords, takenDiagrams, takesWords, wakeWords};
 ghost use lib.ListN.{length};
 ghost use mathlib.Core.Path.{_≡_};
 
@@ -102,7 +102,7 @@ pub fn takes(
     count: u32,
 )
     requires graph { ⌜ Graph first count (now pairs) ⌝ }
-    requires room { ⌜ Room count (held (now stages) (now diagrams) (now rows)) ⌝ }
+    requires room { ⌜ TakesRoom count (held (now stages) (now diagrams) (now rows)) ⌝ }
     ensures { λ _. ⌜ held (now (stages .exit)) (now (diagrams .exit)) (now (rows .exit)) ≡ takesWords (now (pairs .entry)) first (count - first) (held (now (stages .entry)) (now (diagrams .entry)) (now (rows .entry))) ⌝ }
 {
     let mut v = first;

@@ -2,7 +2,7 @@
 use Prim.Native.Nat.{_+_, _<_, _≤_, suc, zero, ℕ}
 use Rattle.product_model.proofs.Ran.{Done}
 use Rattle.product_model.proofs.Store.{done-holds}
-use Rattle.product_model.specs.code.Books.{Holds}
+use Rattle.product_model.specs.code.Books.{HoldsParts}
 use Rattle.product_model.specs.Run.{Book}
 use Rattle.sweep_model.proofs.Marked.{Inserted, andAt, ands-first, ands-put, marked-none, marked-put, marked-stays, parts-inserted, sum-inserted}
 use Rattle.sweep_model.proofs.Tidy.{first-unmerged}
@@ -60,7 +60,7 @@ module _ {p : Problem} {entry marks : List ℕ} {book : Book} (a : Accounted p e
   unnamed-now k d = each-set (λ (u m : ℕ). m ≢ 3) marks v k 0 (omega arith) d (λ u e. a .unnamed u)
 
   -- A mark other than 1 adds no rows.
-  pub holds-now : (k : ℕ) → is 1 k ≡ false → Holds book (marked (is 1) (now k) (p .functions))
+  pub holds-now : (k : ℕ) → is 1 k ≡ false → HoldsParts book (marked (is 1) (now k) (p .functions))
   holds-now k e = rw (marked-stays (is 1) k e marks (p .functions) v (ap (is 1) unmarked)) (a .holds)
 
   -- The steps with one AND more.

@@ -25,7 +25,7 @@ use Rattle.truth.specs.Parts.{size}
 use borrow.Author.Tests.{eqb-true}
 use mathlib.Core.Bool.{cond, false, true}
 use mathlib.Core.List.{List}
-use mathlib.Core.Logic.{_⊎_, _≢_, inl, inr, ⊎-elim}
+use mathlib.Core.Logic.{_≢_, _⊎_, inl, inr, ⊎-elim}
 use mathlib.Core.Path.{_∙_, _≡_, ap, sym}
 use native.Mathlib.Decide.{decLt}
 use native.Mathlib.Omega.{arith}

@@ -8,7 +8,7 @@ use Rattle.sweep_model.proofs.Turns.{turns-set, waiting-turns}
 use Rattle.sweep_model.specs.Fit.{Fit, vertexCount}
 use Rattle.sweep_model.specs.State.{Problem, State, opened, stageOf, waits?}
 use Rattle.sweep_model.specs.code.Steady.{Scanning, Steady}
-use Rattle.sweep_model.specs.Sweep.{Progress, Twin, Verdict, andThen, at, go, goFor, none, on, openAt, pickFrom, start, turnsLeft, turnsOf}
+use Rattle.sweep_model.specs.Sweep.{Candidate, Progress, Verdict, andThen, at, go, goFor, none, on, openAt, pickFrom, start, turnsLeft, turnsOf}
 use mathlib.Core.Bool.{true}
 use mathlib.Core.List.{List}
 use mathlib.Core.Path.{_∙_, _≡_, refl, sym}
@@ -90,7 +90,7 @@ module _ {p : Problem} {entry : List ℕ} (fit : Fit p entry) where
       go-stops p (suc n) s e ∙ sym (go-stops p zero s e)
   same-end (suc n) (suc m) s c h = case (pickFrom p 0 (s .stages)) refl (λ t d k. same-end n m t d k)
     where
-      case : (o : Twin) → pickFrom p 0 (s .stages) ≡ o → ((t : State) → Between n t → turnsLeft (t .stages) ≤ m → goFor p n t ≡ goFor p m t)
+      case : (o : Candidate) → pickFrom p 0 (s .stages) ≡ o → ((t : State) → Between n t → turnsLeft (t .stages) ≤ m → goFor p n t ≡ goFor p m t)
           → goFor p (suc n) s ≡ goFor p (suc m) s
       case none e next = go-stops p (suc n) s e ∙ sym (go-stops p (suc m) s e)
       case (at v) e next =

@@ -3,7 +3,7 @@ use Prim.Native.Nat.{_+_, _-_, _<_, _≤_, suc, zero, ℕ}
 use Rattle.sweep_model.proofs.Turns.{no-turns, waiting-turns}
 use Rattle.sweep_model.specs.Choices.{Opens}
 use Rattle.sweep_model.specs.State.{Problem, Stage, dropped?, functionOf, has?, stageOf, waits?}
-use Rattle.sweep_model.specs.Sweep.{Twin, anyDropped?, at, none, pickFrom, smaller, turnsLeft, twinFrom}
+use Rattle.sweep_model.specs.Sweep.{Candidate, anyDropped?, at, none, pickFrom, smaller, turnsLeft, twinFrom}
 use Rattle.truth.proofs.Booleans.{and-left, and-right, clash, not-true, or-left, or-right}
 use Rattle.truth.specs.Parts.{alike?, size}
 use borrow.Author.Tests.{leb-false, leb-true}
@@ -32,7 +32,7 @@ pub record LowestTwin (p : Problem) (stages : List Stage) (v k n w : ℕ) : Type
   pub lowest : (u : ℕ) → k ≤ u → u < w → IsTwin p stages v u → ⊥
 
 module _ (p : Problem) (stages : List Stage) (v : ℕ) where
-  Says : ℕ → ℕ → Twin → Type 0
+  Says : ℕ → ℕ → Candidate → Type 0
   Says k n (at w) = LowestTwin p stages v k n w
   Says k n none = (u : ℕ) → k ≤ u → u < k + n → IsTwin p stages v u → ⊥
 
@@ -51,7 +51,7 @@ module _ (p : Problem) (stages : List Stage) (v : ℕ) where
             | no i ↦ f (omega arith) t
           ]
 
-      go : (b : Bool) → twin? p stages v k ≡ b → (o : Twin) → Says (suc k) n o → Says k (suc n) (cond b (at k) o)
+      go : (b : Bool) → twin? p stages v k ≡ b → (o : Candidate) → Says (suc k) n o → Says k (suc n) (cond b (at k) o)
       go true e o s =
           record {
             from = omega arith;
@@ -90,7 +90,7 @@ record Least (p : Problem) (k : ℕ) (stages : List Stage) (v : ℕ) : Type 0 wh
   lowest : (w : ℕ) → k ≤ w → waits? (stageOf stages (w - k)) ≡ true → size (functionOf p v) ≡ size (functionOf p w) → v ≤ w
 
 -- What a pick among them says.
-Picks : Problem → ℕ → List Stage → Twin → Type 0
+Picks : Problem → ℕ → List Stage → Candidate → Type 0
 Picks p k stages (at v) = Least p k stages v
 Picks p k stages none = (i : ℕ) → waits? (stageOf stages i) ≡ false
 
@@ -151,7 +151,7 @@ unfolding pickFrom smaller Picks waits?
 picks p [] k = λ i. refl
 picks p (x ∷ stages) k = go (waits? x) refl (pickFrom p (suc k) stages) (picks p stages (suc k))
   where
-    less : waits? x ≡ true → (o : Twin) → Picks p (suc k) stages o → Picks p k (x ∷ stages) (at (smaller p k o))
+    less : waits? x ≡ true → (o : Candidate) → Picks p (suc k) stages o → Picks p k (x ∷ stages) (at (smaller p k o))
     less e none s = own-least p x stages k e (λ w l h. clash h (s (w - suc k)))
     less e (at w) s = pick (leb (size (functionOf p k)) (size (functionOf p w))) refl
       where
@@ -161,7 +161,7 @@ picks p (x ∷ stages) k = go (waits? x) refl (pickFrom p (suc k) stages) (picks
             (λ u l h. omega (arith, leb-true (size (functionOf p k)) (size (functionOf p w)) i, s .least u l h))
         pick false i = later-least p x stages k w s (λ h. leb-false (size (functionOf p k)) (size (functionOf p w)) i)
 
-    go : (b : Bool) → waits? x ≡ b → (o : Twin) → Picks p (suc k) stages o → Picks p k (x ∷ stages) (cond b (at (smaller p k o)) o)
+    go : (b : Bool) → waits? x ≡ b → (o : Candidate) → Picks p (suc k) stages o → Picks p k (x ∷ stages) (cond b (at (smaller p k o)) o)
     go true e o s = less e o s
     go false e (at w) s = later-least p x stages k w s (λ h. clash h e)
     go false e none s = λ i. elim i [ zero ↦ e | suc j ↦ s j ]
@@ -196,7 +196,7 @@ pick-none p stages e = subst (Picks p 0 stages) e (picks p stages 0)
 pub no-turns-no-pick : (p : Problem) (stages : List Stage) → turnsLeft stages ≡ 0 → pickFrom p 0 stages ≡ none
 no-turns-no-pick p stages e = go (pickFrom p 0 stages) refl
   where
-    go : (o : Twin) → pickFrom p 0 stages ≡ o → o ≡ none
+    go : (o : Candidate) → pickFrom p 0 stages ≡ o → o ≡ none
     go (at v) k = absurd (omega (arith, no-turns stages e v, waiting-turns (stageOf stages v) (pick-waits p stages v k)))
     go none k = refl
 

@@ -1,6 +1,6 @@
 -- A problem that fits: "The and/or pair above", a AND b against a OR b.
 use Prim.Native.Nat.{_*_, _<_, _≤_, suc, zero, ℕ}
-use Rattle.aig.specs.Lookup.{Holds, firstWord, secondWord}
+use Rattle.aig.specs.Lookup.{HoldsRow, firstWord, secondWord}
 use Rattle.sweep_model.specs.Fit.{Fit}
 use Rattle.sweep_model.specs.State.{Problem, functionOf, literalFunction}
 use Rattle.truth.proofs.Values.{perfect-conj, perfect-constant, perfect-input, perfect-invert}
@@ -60,7 +60,7 @@ example-fits =
                 record {
                   long = omega arith;
                   own = λ v h.
-                      five (λ u. u < 3 → Holds andAgainstOrRows u (2 * u) (2 * u)) (λ h. twice) (λ h. twice) (λ h. twice) (λ h. absurd (omega arith))
+                      five (λ u. u < 3 → HoldsRow andAgainstOrRows u (2 * u) (2 * u)) (λ h. twice) (λ h. twice) (λ h. twice) (λ h. absurd (omega arith))
                       (λ h. absurd (omega arith)) v (omega arith) h;
                   first-below = λ v l h. made (λ u. firstWord andAgainstOrRows u < 2 * u) (omega arith) (omega arith) v l h;
                   second-below = λ v l h. made (λ u. secondWord andAgainstOrRows u < 2 * u) (omega arith) (omega arith) v l h;
@@ -74,7 +74,7 @@ example-fits =
           };
     }
   where
-    twice : {rows : List ℕ} {v : ℕ} → Holds rows v (firstWord rows v) (secondWord rows v)
+    twice : {rows : List ℕ} {v : ℕ} → HoldsRow rows v (firstWord rows v) (secondWord rows v)
     twice = record { first = refl; second = refl }
 
     made : (P : ℕ → Type 0) → P 3 → P 4 → (v : ℕ) → 3 ≤ v → v < 5 → P v

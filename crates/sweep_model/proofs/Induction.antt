@@ -10,7 +10,7 @@ use Rattle.sweep_model.specs.Fit.{Fit, vertexCount}
 use Rattle.sweep_model.specs.Normalise.{normalise}
 use Rattle.sweep_model.specs.State.{Problem, State, bare?, functionOf, gone?, literalFunction, open?, stageOf, withBook, withMark}
 use Rattle.sweep_model.specs.code.Steady.{Due, Giving, Scanning, Steady, Unsettled, haveNow?, leftNow, productOf, rightNow}
-use Rattle.sweep_model.specs.Sweep.{Progress, Twin, Verdict, andThen, answerOf, at, begin, cause, conclude, different, drop, ends, equal, giveRow, givenBack, go, goFor, inputsFrom, look, lookAt, meet, multiply, none, on, openAt, pickFrom, ready?, scanFrom, start, sweep, swept, topPart, turnsLeft, twinFrom, undecided, visit}
+use Rattle.sweep_model.specs.Sweep.{Candidate, Progress, Verdict, andThen, at, begin, cause, conclude, different, dropVertex, ends, equal, giveInputs, giveRow, givenBack, go, goFor, look, lookAt, meet, multiply, none, on, openAt, pickFrom, ready?, resultOf, scanFrom, start, sweep, swept, topPart, turnsLeft, twinFrom, undecided, visit}
 use Rattle.sweep_model.specs.declared.Cause.the-variants.{Rows, Steps}
 use Rattle.truth.proofs.Booleans.{and-left, and-right}
 use Rattle.truth.specs.Distinct.{among}
@@ -58,7 +58,7 @@ pub record Keeps (p : Problem) (entry : List ℕ) (R : Place → State → Type 
       → R (scanning n (suc v)) s
   -- A product ends too large; of a function that no vertex with a diagram has; of one that vertex w has.
   pub drops : (n v : ℕ) (b : Book) (s : State) → Due p entry n v s → productOf p v s ≡ done b → ltb (p .limits .size) (size (functionOf p v)) ≡ true
-      → R (scanning n v) s → R (scanning n (suc v)) (drop v b s)
+      → R (scanning n v) s → R (scanning n (suc v)) (dropVertex v b s)
   pub sweeps : (n v : ℕ) (b : Book) (s : State) → Due p entry n v s → productOf p v s ≡ done b → ltb (p .limits .size) (size (functionOf p v)) ≡ false
       → twinFrom p (s .stages) v 0 (length (s .stages)) ≡ none → R (scanning n v) s → R (scanning n (suc v)) (swept v (withBook b s))
   pub merges : (n v w : ℕ) (b : Book) (s : State) → Due p entry n v s → productOf p v s ≡ done b → ltb (p .limits .size) (size (functionOf p v)) ≡ false
@@ -181,10 +181,10 @@ module _ {p : Problem} {entry : List ℕ} (fit : Fit p entry) {R : Place → Sta
         (λ f.
         let h = dropped-steady s b v nonzero (due-alive due) (due .steady) in
         let k = K .drops n v b s due e f r in
-        look-claim (scanning n (suc v)) (drop v b s) h k (λ u. record { steady = h; scanned = scanning-dropped due b u; kept = k }))
+        look-claim (scanning n (suc v)) (dropVertex v b s) h k (λ u. record { steady = h; scanned = scanning-dropped due b u; kept = k }))
         (λ f. met f (twinFrom p (s .stages) v 0 (length (s .stages))) refl)
       where
-        met : ltb (p .limits .size) (size (functionOf p v)) ≡ false → (o : Twin) → twinFrom p (s .stages) v 0 (length (s .stages)) ≡ o
+        met : ltb (p .limits .size) (size (functionOf p v)) ≡ false → (o : Candidate) → twinFrom p (s .stages) v 0 (length (s .stages)) ≡ o
             → Claim (Reached n (suc v)) W (look p (meet p v (withBook b s) o))
         met f none i = unfold meet in
             (let h = swept-steady s b v nonzero (due-alive due) (due .steady) in
@@ -261,7 +261,7 @@ module _ {p : Problem} {entry : List ℕ} (fit : Fit p entry) {R : Place → Sta
       goes-on (record { turns = 0; reached = c; none-waits = no-turns-no-pick p (s .stages) (omega (arith, c .scanned .budget)) })
   go-claim (suc n) s c = case (pickFrom p 0 (s .stages)) refl (λ t h. go-claim n t h)
     where
-      case : (o : Twin) → pickFrom p 0 (s .stages) ≡ o → ((t : State) → Reached n (vertexCount p) t → Claim Quiet W (goFor p n t))
+      case : (o : Candidate) → pickFrom p 0 (s .stages) ≡ o → ((t : State) → Reached n (vertexCount p) t → Claim Quiet W (goFor p n t))
           → Claim Quiet W (elim o [ at v ↦ andThen (openAt p v s) (goFor p n) | none ↦ on s ])
       case (at v) e next = then-claim (turn-claim n v s e c) next
       case none e next = goes-on (record { turns = suc n; reached = c; none-waits = e })
@@ -272,8 +272,8 @@ module _ {p : Problem} {entry : List ℕ} (fit : Fit p entry) {R : Place → Sta
     given : Giving p k s
     kept : R (giving k) s
 
-  inputs-claim : (n k : ℕ) (s : State) → 1 ≤ k → k + n ≡ p .first → Given k s → Claim (Given (p .first)) W (inputsFrom p k n s)
-  unfolding inputsFrom gone?
+  inputs-claim : (n k : ℕ) (s : State) → 1 ≤ k → k + n ≡ p .first → Given k s → Claim (Given (p .first)) W (giveInputs p k n s)
+  unfolding giveInputs gone?
   inputs-claim zero k s l e c = goes-on (let i : k ≡ p .first = omega arith in subst (λ (j : ℕ). Given j s) i c)
   inputs-claim (suc n) k s l e c = then-claim (case (inputRow p k s) refl) (λ t h. inputs-claim n (suc k) t (omega arith) (omega arith) h)
     where
@@ -309,6 +309,6 @@ module _ {p : Problem} {entry : List ℕ} (fit : Fit p entry) {R : Place → Sta
   unfolding sweep go
   sweep-keeps = last (andThen (start p entry) (go p)) (then-claim start-claim (λ s c. go-claim (turnsLeft (s .stages)) s c))
     where
-      last : (o : Progress) → Claim Quiet W o → W (answerOf o .verdict) (answerOf o .left)
-      last (on s) (goes-on q) = unfold answerOf in K .rests (q .turns) s (q .reached .steady) (q .reached .scanned) (q .none-waits) (q .reached .kept)
-      last (ends x s) (stops h) = unfold answerOf in h
+      last : (o : Progress) → Claim Quiet W o → W (resultOf o .verdict) (resultOf o .left)
+      last (on s) (goes-on q) = unfold resultOf in K .rests (q .turns) s (q .reached .steady) (q .reached .scanned) (q .none-waits) (q .reached .kept)
+      last (ends x s) (stops h) = unfold resultOf in h

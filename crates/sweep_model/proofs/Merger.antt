@@ -2,7 +2,7 @@
 use Prim.Native.Nat.{_*_, _-_, _<_, _≤_, max, min, suc, ℕ}
 use Rattle.aig.proofs.LiteralLaws.{literal-below, vertex-literal}
 use Rattle.aig.specs.Literal.{literalOf}
-use Rattle.aig.specs.Lookup.{Holds, firstWord, secondWord}
+use Rattle.aig.specs.Lookup.{HoldsRow, firstWord, secondWord}
 use Rattle.product_model.specs.Run.{Book}
 use Rattle.sweep_model.proofs.Choices.{LowestTwin}
 use Rattle.sweep_model.proofs.Functions.{literal-function}
@@ -161,7 +161,7 @@ module _ {p : Problem} {entry : List ℕ} (fit : Fit p entry) {n v : ℕ} {s : S
         (ap (wasMerged? (p .first) (s .rows)) (vertex-literal (min v w) (not (same? (functionOf p v) (functionOf p w)))) ∙ lower-unmerged))
 
     -- Rows below the higher stay.
-    pub merger-below : (u : ℕ) → u < max v w → Holds (meet p v (withBook b s) (at w) .rows) u (firstWord (s .rows) u) (secondWord (s .rows) u)
+    pub merger-below : (u : ℕ) → u < max v w → HoldsRow (meet p v (withBook b s) (at w) .rows) u (firstWord (s .rows) u) (secondWord (s .rows) u)
     merger-below u h =
         rw merger-rows (merge-below some down (max v w) (lowerLiteral p v w) higher-made higher-within lower-below (due .steady .tidy) u h)
 

@@ -14,13 +14,13 @@ use Rattle.sweep_model.specs.Fit.{Fit, vertexCount}
 use Rattle.sweep_model.specs.Normalise.{resolve, wasMerged?}
 use Rattle.sweep_model.specs.State.{Problem, Stage, State, bare?, dropped, dropped?, gone?, has?, opened, stageOf, waiting, waits?}
 use Rattle.sweep_model.specs.code.Steady.{Steady, Unsettled, haveNow?}
-use Rattle.sweep_model.specs.Sweep.{anyDropped?, drop, go, on, start, sweep, swept, turnsLeft, undecided}
+use Rattle.sweep_model.specs.Sweep.{anyDropped?, dropVertex, go, on, start, sweep, swept, turnsLeft, undecided}
 use Rattle.sweep_model.specs.declared.Cause.the-variants.{Idle}
 use Rattle.truth.proofs.Booleans.{clash}
 use lib.ListN.{length}
 use mathlib.Core.Bool.{_&&_, false, true}
 use mathlib.Core.List.{List}
-use mathlib.Core.Logic.{_⊎_, _≢_, inl, inr, ⊎-elim}
+use mathlib.Core.Logic.{_≢_, _⊎_, inl, inr, ⊎-elim}
 use mathlib.Core.Path.{_∙_, _≡_, ap₂, refl, sym}
 use native.Mathlib.Decide.{decLt}
 use native.Mathlib.Omega.{arith}
@@ -51,7 +51,7 @@ module _ {p : Problem} {entry : List ℕ} (fit : Fit p entry) where
 
   -- Each step of the sweep keeps it.
   pub no-starving : Keeps p entry NotStarving (λ x s. Unit {0})
-  unfolding NotStarving swept drop bare?
+  unfolding NotStarving swept dropVertex bare?
   no-starving =
       record {
         same-literal = λ place s h r e. tt;

@@ -20,7 +20,7 @@ use Rattle.sweep_model.specs.Normalise.{normalise, wake, wasMerged?}
 use Rattle.sweep_model.specs.code.Reachable.{Accounted, Apart, InputsMarked, Reachable, StageFits}
 use Rattle.sweep_model.specs.State.{Problem, Stage, State, bare, bare?, dropped, dropped?, functionOf, gone, gone?, has?, opened, stageOf, waiting, waits?, withBook}
 use Rattle.sweep_model.specs.code.Steady.{Due, Giving, Steady, productOf}
-use Rattle.sweep_model.specs.Sweep.{at, begin, drop, meet, none, swept, twinFrom}
+use Rattle.sweep_model.specs.Sweep.{at, begin, dropVertex, meet, none, swept, twinFrom}
 use Rattle.truth.proofs.Booleans.{clash, not-true}
 use Rattle.truth.proofs.Parts.{alike-sameness, parts-constant}
 use Rattle.truth.specs.Distinct.{apart}
@@ -268,11 +268,11 @@ module _ {p : Problem} {entry : List ℕ} (fit : Fit p entry) where
       product-done = is-done (product-ran fit due (r .stored) (r .accounted .proper)) e
 
       -- A vertex dropped.
-      pub dropped-reachable : ltb (p .limits .size) (size (functionOf p v)) ≡ true → Reachable p entry (drop v b s)
-      unfolding drop has?
+      pub dropped-reachable : ltb (p .limits .size) (size (functionOf p v)) ≡ true → Reachable p entry (dropVertex v b s)
+      unfolding dropVertex has?
       dropped-reachable f =
           record {
-            steady = unfold drop in dropped-steady s b v due-nonzero (due-alive due) (r .steady);
+            steady = unfold dropVertex in dropped-steady s b v due-nonzero (due-alive due) (r .steady);
             accounted =
                 dropped-accounted (r .accounted) (r .steady .marked) v (due-within due) due-unmarked product-done (due .made) refl
                 (ltb-true (p .limits .size) (size (functionOf p v)) f) due-entry due-nonzero;

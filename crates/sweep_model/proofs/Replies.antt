@@ -3,7 +3,7 @@ use Prim.Native.Nat.{_+_, _<_, _≤_, suc, ℕ}
 use Rattle.product_model.proofs.Cases.{impossible}
 use Rattle.product_model.proofs.Ran.{ShortOfRows, ShortOfSteps, is-short-of-rows, is-short-of-steps}
 use Rattle.product_model.proofs.Store.{rows-together}
-use Rattle.product_model.specs.code.Books.{Holds, Proper, Stored}
+use Rattle.product_model.specs.code.Books.{HoldsParts, Proper, Stored}
 use Rattle.product_model.specs.Run.{Book, shortOfRows, shortOfSteps}
 use Rattle.sweep_model.proofs.Accounts.{fits-now, holds-now}
 use Rattle.sweep_model.proofs.Choices.{pick-waits}
@@ -53,7 +53,7 @@ SomeLarge p marks = (v : ℕ) × (v < vertexCount p) × (getD marks v 0 ≡ 2)
 -- What holds of a verdict and of the state that it leaves.
 pub record Ended (p : Problem) (entry : List ℕ) (x : Verdict) (s : State) : Type 0 where
   pub proper : Proper (p .limits .rows) (p .limits .steps) (s .book)
-  pub holds : Holds (s .book) (marked (is 1) (s .marks) (p .functions))
+  pub holds : HoldsParts (s .book) (marked (is 1) (s .marks) (p .functions))
   pub spent : Spent p entry (s .marks) (s .book) x
   pub stored : AllStored p (s .stages) (s .book .store)
   pub apart : Apart p (s .stages)
@@ -86,7 +86,7 @@ some-dropped (x ∷ stages) e =
 
 -- A vertex marked 1 has its rows.
 pub marked-stored :
-    (p : Problem) (marks : List ℕ) (book : Book) → length marks ≡ vertexCount p → Holds book (marked (is 1) marks (p .functions)) → (v : ℕ)
+    (p : Problem) (marks : List ℕ) (book : Book) → length marks ≡ vertexCount p → HoldsParts book (marked (is 1) marks (p .functions)) → (v : ℕ)
     → getD marks v 0 ≡ 1 → Stored (functionOf p v) (book .store)
 marked-stored p marks book long H v e t k =
     H .members t

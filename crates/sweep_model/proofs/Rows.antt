@@ -3,7 +3,7 @@ use Prim.Native.Nat.{_%_, _*_, _+_, _<_, _≤_, ℕ}
 use Rattle.aig.proofs.IndexLaws.{row-holds, row-length}
 use Rattle.aig.proofs.LiteralLaws.{inverted-negate, negate-negate}
 use Rattle.aig.specs.Literal.{inverted?, negate, onto, vertexOf}
-use Rattle.aig.specs.Lookup.{Holds, firstWord, secondWord, withRow}
+use Rattle.aig.specs.Lookup.{HoldsRow, firstWord, secondWord, withRow}
 use Rattle.sweep_model.proofs.Functions.{function-negate, function-self}
 use Rattle.sweep_model.specs.Fit.{Downward, Sound, WellFormed, vertexCount}
 use Rattle.sweep_model.specs.Normalise.{merged?, mergedInto, resolve}
@@ -20,7 +20,7 @@ use native.Mathlib.Decide.{decLt, ℕ-discrete}
 use native.Mathlib.Omega.{arith}
 
 -- A row that is replaced leaves the rows of other vertices.
-pub row-other : (rows : List ℕ) (v x y u : ℕ) → u ≢ v → Holds (withRow rows v x y) u (firstWord rows u) (secondWord rows u)
+pub row-other : (rows : List ℕ) (v x y u : ℕ) → u ≢ v → HoldsRow (withRow rows v x y) u (firstWord rows u) (secondWord rows u)
 row-other rows v x y u d =
     record {
       first = getD-set-other (set rows (2 * v) x) (2 * v + 1) (2 * u) y 0 (λ e. omega arith) ∙ getD-set-other rows (2 * v) (2 * u) x 0 (λ e. d (omega arith));
@@ -92,7 +92,7 @@ resolve-onto rows x r =
 
 -- What a literal became depends on the row of its vertex alone.
 pub resolve-agree :
-    (rows other : List ℕ) (r : ℕ) → Holds other (vertexOf r) (firstWord rows (vertexOf r)) (secondWord rows (vertexOf r))
+    (rows other : List ℕ) (r : ℕ) → HoldsRow other (vertexOf r) (firstWord rows (vertexOf r)) (secondWord rows (vertexOf r))
     → resolve other r ≡ resolve rows r
 unfolding resolve
 resolve-agree rows other r h = rw (h .first, h .second)
@@ -120,7 +120,7 @@ module _ {first count : ℕ} {rows : List ℕ} (d : Downward first count rows) w
 
   module _ (v x y : ℕ) (made : first ≤ v) (within : v < count) where
     -- The row that was replaced.
-    pub row-here : Holds (withRow rows v x y) v x y
+    pub row-here : HoldsRow (withRow rows v x y) v x y
     row-here = row-holds rows v x y (omega (arith, d .long))
 
     -- A made row of lower literals keeps the rows downward.

@@ -6,7 +6,7 @@ use Rattle.aig.proofs.IndexLaws.{row-length}
 use Rattle.aig.proofs.PairsLaws.{pair-each, pair-then}
 use Rattle.aig.specs.Fold.{Unfolded, foldOf}
 use Rattle.aig.specs.Literal.{lit, vertexOf}
-use Rattle.aig.specs.Lookup.{First, Holds, Unused, firstVertex, firstWord, secondWord, withRow}
+use Rattle.aig.specs.Lookup.{First, HoldsRow, Unused, firstVertex, firstWord, secondWord, withRow}
 use Rattle.aig.specs.Pairs.{SamePair, crossed, straight}
 use Rattle.aig.specs.declared.fold.Folded.the-variants.{Pair, To}
 use Rattle.aig.specs.declared.fold.Folded.{Folded}
@@ -130,10 +130,10 @@ module _ {first count : ℕ} (some : 1 ≤ first) {rows : List ℕ} (d : Downwar
       go (Pair x y) e = found e (firstVertex rows (x .0) (y .0) v) refl
 
   module _ {other : List ℕ} (s : Settles first rows other v) where
-    row-before : (u : ℕ) → u ≢ v → Holds other u (firstWord rows u) (secondWord rows u)
+    row-before : (u : ℕ) → u ≢ v → HoldsRow other u (firstWord rows u) (secondWord rows u)
     row-before u e = rw (s .written) (row-other rows v (s .x) (s .y) u e)
 
-    row-now : Holds other v (s .x) (s .y)
+    row-now : HoldsRow other v (s .x) (s .y)
     row-now = rw (s .written) (row-here d v (s .x) (s .y) made within)
 
     row-down : Downward first count other
@@ -193,7 +193,7 @@ pub record Normalised (first count k n : ℕ) (rows other : List ℕ) : Type 0 w
   pub downward : Downward first count other
   pub tidy : Tidy first (k + n) other
   pub moves : Moves k (k + n) rows other
-  pub before : (u : ℕ) → u < k → Holds other u (firstWord rows u) (secondWord rows u)
+  pub before : (u : ℕ) → u < k → HoldsRow other u (firstWord rows u) (secondWord rows u)
 
 -- Rows tidy below vertex k are tidy as far as they are normalised from there.
 pub normalised :
@@ -255,7 +255,7 @@ normalised {first} {count} some (suc n) k rows d t made within =
               record { first = a .first ∙ b .first; second = a .second ∙ b .second };
         }
       where
-        now : Holds other k (s .x) (s .y)
+        now : HoldsRow other k (s .x) (s .y)
         now =
             let a = r .before k (omega arith) in
             let b = row-now some d k t made (omega arith) s in
@@ -392,7 +392,7 @@ module _ {first count : ℕ} (some : 1 ≤ first) {rows : List ℕ} (d : Downwar
   merge-into = mid-renewed .moves .into v made within mid-merged ∙ ap (resolve (mergedRows first count rows v r)) (row-here d v r r made within .first)
 
   -- Where the rows were tidy those below it stay.
-  pub merge-below : Tidy first count rows → (u : ℕ) → u < v → Holds (mergedRows first count rows v r) u (firstWord rows u) (secondWord rows u)
+  pub merge-below : Tidy first count rows → (u : ℕ) → u < v → HoldsRow (mergedRows first count rows v r) u (firstWord rows u) (secondWord rows u)
   merge-below t u h =
       let a : count - first ≡ v - first + (count - v) = omega arith in
       let b : first + (v - first) ≡ v = omega arith in

@@ -16,13 +16,13 @@ use Rattle.sweep_model.specs.Fit.{Fit, vertexCount}
 use Rattle.sweep_model.specs.Normalise.{normalise, resolve, wasMerged?}
 use Rattle.sweep_model.specs.State.{Problem, Stage, State, dropped, gone, gone?, has?, opened, stageOf, waiting, waits?, withBook}
 use Rattle.sweep_model.specs.code.Steady.{Moves, Steady}
-use Rattle.sweep_model.specs.Sweep.{at, begin, drop, givenBack, swept}
+use Rattle.sweep_model.specs.Sweep.{at, begin, dropVertex, givenBack, swept}
 use Rattle.truth.proofs.Booleans.{bool-cases, clash, or-cases, or-left}
 use lib.ListN.{getD, length, set}
 use lib.Seq.{getD-set-other, getD-set-same}
 use mathlib.Core.Bool.{false, true}
 use mathlib.Core.List.{List}
-use mathlib.Core.Logic.{_⊎_, _≢_, inl, inr, ⊎-elim}
+use mathlib.Core.Logic.{_≢_, _⊎_, inl, inr, ⊎-elim}
 use mathlib.Core.Path.{_∙_, _≡_, ap, refl, sym}
 use native.Mathlib.Decide.{ℕ-discrete}
 use native.Mathlib.Omega.{arith}
@@ -138,8 +138,8 @@ module _ {p : Problem} {entry : List ℕ} {s : State} (h : Steady p entry s) (v 
         (getD-set-same (s .marks) v 1 0 within-marks) (λ u d. getD-set-other (s .marks) v u 1 0 d) b
 
     -- A vertex without a diagram dropped.
-    pub recorded-dropped : (b : Book) → has? (stageOf (s .stages) v) ≡ false → Recorded p (drop v b s)
-    unfolding drop has?
+    pub recorded-dropped : (b : Book) → has? (stageOf (s .stages) v) ≡ false → Recorded p (dropVertex v b s)
+    unfolding dropVertex has?
     recorded-dropped b lacks =
         recorded-change c dropped 2 (record { source = λ e. clash e refl; swept-has = λ e. absurd (omega arith); still-has = λ e. clash e lacks })
         (set (s .marks) v 2) (getD-set-same (s .marks) v 2 0 within-marks) (λ u d. getD-set-other (s .marks) v u 2 0 d) (givenBack (s .book) b)

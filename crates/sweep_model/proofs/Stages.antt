@@ -7,7 +7,7 @@ use lib.ListN.{List·getD-eq-default, length, length-set}
 use lib.Seq.{getD-set-other, getD-set-same}
 use mathlib.Core.Bool.{false, true}
 use mathlib.Core.List.{List}
-use mathlib.Core.Logic.{_⊎_, _≢_, inl, inr}
+use mathlib.Core.Logic.{_≢_, _⊎_, inl, inr}
 use mathlib.Core.Path.{_∙_, _≡_, ap, refl, sym}
 use native.Mathlib.Decide.{decLt}
 use native.Mathlib.Omega.{arith}

@@ -12,7 +12,7 @@ use Rattle.sweep_model.specs.Fit.{Fit, Sound, WellFormed, vertexCount}
 use Rattle.sweep_model.specs.Normalise.{normalise, normaliseFrom, wasMerged?}
 use Rattle.sweep_model.specs.State.{Problem, Stage, State, bare, dropped, functionOf, gone, gone?, has?, opened, stageOf, waiting, waits?, withBook, withMark, withStages}
 use Rattle.sweep_model.specs.code.Steady.{Due, Giving, Moves, Scanning, Staged, Steady, Unsettled, leftNow, rightNow}
-use Rattle.sweep_model.specs.Sweep.{begin, drop, swept, topPart, turnsLeft, turnsOf}
+use Rattle.sweep_model.specs.Sweep.{begin, dropVertex, swept, topPart, turnsLeft, turnsOf}
 use Rattle.truth.proofs.Booleans.{clash}
 use lib.ListN.{getD-replicate, length, length-replicate, length-set, replicate, set}
 use lib.Seq.{getD-set-other, getD-set-same}
@@ -71,8 +71,8 @@ swept-steady s b v nonzero alive h =
 -- A vertex dropped.
 pub dropped-steady :
     {p : Problem} {entry : List ℕ} (s : State) (b : Book) (v : ℕ) → v ≢ 0 → gone? (stageOf (s .stages) v) ≡ false → Steady p entry s
-    → Steady p entry (drop v b s)
-unfolding drop gone?
+    → Steady p entry (dropVertex v b s)
+unfolding dropVertex gone?
 dropped-steady s b v nonzero alive h =
     record {
       sound = h .sound;
@@ -291,6 +291,6 @@ module _ {p : Problem} {entry : List ℕ} {n v : ℕ} {s : State} (due : Due p e
   scanning-swept b u = record { budget = due-turns waiting refl; within = due-within; first-have = first-kept waiting; unsettled = u }
 
   -- A vertex dropped: the scan goes on at the next.
-  pub scanning-dropped : (b : Book) → Unsettled p (drop v b s) → Scanning p n (suc v) (drop v b s)
-  unfolding drop turnsOf
+  pub scanning-dropped : (b : Book) → Unsettled p (dropVertex v b s) → Scanning p n (suc v) (dropVertex v b s)
+  unfolding dropVertex turnsOf
   scanning-dropped b u = record { budget = due-turns dropped refl; within = due-within; first-have = first-kept dropped; unsettled = u }

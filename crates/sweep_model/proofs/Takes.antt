@@ -13,7 +13,7 @@ use lib.ListN.{length, length-set, set}
 use lib.Seq.{getD-set-other, getD-set-same}
 use mathlib.Core.Bool.{Bool, _&&_, _||_, cond, false, not, true}
 use mathlib.Core.List.{List}
-use mathlib.Core.Logic.{_⊎_, _≢_, inl, inr}
+use mathlib.Core.Logic.{_≢_, _⊎_, inl, inr}
 use mathlib.Core.Path.{_∙_, _≡_, ap, ap₂, refl, subst, sym}
 use native.Mathlib.Decide.{ℕ-discrete}
 use native.Mathlib.Omega.{arith}

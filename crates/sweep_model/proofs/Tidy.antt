@@ -2,7 +2,7 @@
 use Prim.Native.Nat.{_*_, _<_, _≤_, ℕ}
 use Rattle.aig.proofs.PairsLaws.{pair-map, pair-then}
 use Rattle.aig.specs.Literal.{onto, vertexOf}
-use Rattle.aig.specs.Lookup.{Holds, firstWord, secondWord}
+use Rattle.aig.specs.Lookup.{HoldsRow, firstWord, secondWord}
 use Rattle.aig.specs.Pairs.{straight}
 use Rattle.sweep_model.proofs.Rows.{onto-vertex, resolve-cases, resolve-first, resolve-merged, resolve-onto, resolve-stays}
 use Rattle.sweep_model.specs.Fit.{Downward}
@@ -47,7 +47,7 @@ pub unequal-stays : (first : ℕ) (rows : List ℕ) (v : ℕ) → merged? rows v
 unequal-stays first rows v e = ap (_&&_ (leb first v)) e ∙ and-false (leb first v)
 
 -- The tests see only the vertex's own row.
-pub merged-agree : (rows other : List ℕ) (v : ℕ) → Holds other v (firstWord rows v) (secondWord rows v) → merged? other v ≡ merged? rows v
+pub merged-agree : (rows other : List ℕ) (v : ℕ) → HoldsRow other v (firstWord rows v) (secondWord rows v) → merged? other v ≡ merged? rows v
 merged-agree rows other v h = ap₂ eqb (h .first) (h .second)
 
 module _ {first count : ℕ} {rows : List ℕ} (d : Downward first count rows) where
@@ -123,7 +123,7 @@ moves-nowhere {first} {count} {rows} d t =
 -- Rows that are tidy below vertex k are so wherever the rows below it are the same.
 pub tidy-agree :
     {first count k : ℕ} {rows other : List ℕ} → Downward first count rows → k ≤ count → Tidy first k rows
-    → ((u : ℕ) → u < k → Holds other u (firstWord rows u) (secondWord rows u)) → Tidy first k other
+    → ((u : ℕ) → u < k → HoldsRow other u (firstWord rows u) (secondWord rows u)) → Tidy first k other
 tidy-agree {first} {count} {k} {rows} {other} d few t same =
     record {
       first-stays = λ v l h.

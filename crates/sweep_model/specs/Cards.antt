@@ -3,7 +3,7 @@ use Prim.Native.Nat.{suc, zero, ℕ}
 use Rattle.aig.specs.Lookup.{firstWord, ownWords, secondWord}
 use Rattle.aig.specs.Values.{literalValue}
 use Rattle.sweep_model.specs.State.{Limits, Problem}
-use Rattle.sweep_model.specs.Sweep.{Answer, Verdict, different, equal, sweep, undecided}
+use Rattle.sweep_model.specs.Sweep.{Result, Verdict, different, equal, sweep, undecided}
 use Rattle.sweep_model.specs.declared.Cause.the-variants.{Rows, Size, Steps}
 use Rattle.truth.specs.Truth.{Truth, conj, constantly, input, invert}
 use lib.ListN.{drop, getD, length}
@@ -43,7 +43,7 @@ pub record Told : Type 0 where
   pub rows : ℕ
   pub steps : ℕ
 
-abbrev pub told : Answer → Told
+abbrev pub told : Result → Told
 told a = record { verdict = a .verdict; rows = length (a .left .book .store); steps = a .left .book .steps }
 
 abbrev pub says : Verdict → ℕ → ℕ → Told
@@ -52,15 +52,15 @@ says x rows steps = record { verdict = x; rows = rows; steps = steps }
 abbrev pub limits : ℕ → ℕ → ℕ → Limits
 limits size rows steps = record { size = size; rows = rows; steps = steps }
 
-abbrev pub answer : ℕ → ℕ → List ℕ → ℕ → ℕ → Limits → Answer
+abbrev pub answer : ℕ → ℕ → List ℕ → ℕ → ℕ → Limits → Result
 answer inputs made words left right l = sweep (cardProblem inputs made words left right l) (ownWords 0 (suc inputs) ++ words)
 
 -- "The and/or pair above": a AND b is vertex 3, the AND of their inversions vertex 4; outputs 6 and 9.
-abbrev pub andOr : Limits → Answer
+abbrev pub andOr : Limits → Result
 andOr l = answer 2 2 (2 ∷ 4 ∷ 3 ∷ 5 ∷ []) 6 9 l
 
 -- "`xor 2 4` output 6 against `or 2 4`, `and 2 4`, `and 6 9` output 10: made 6": outputs 11 and 16.
-abbrev pub xorPair : Limits → Answer
+abbrev pub xorPair : Limits → Result
 xorPair l = answer 2 6 (2 ∷ 5 ∷ 3 ∷ 4 ∷ 7 ∷ 9 ∷ 3 ∷ 5 ∷ 2 ∷ 4 ∷ 13 ∷ 15 ∷ []) 11 16 l
 
 -- "limits 4,096 unless said"

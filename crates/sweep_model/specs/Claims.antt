@@ -12,7 +12,7 @@ use lib.Dec.{eqb}
 use lib.ListN.{drop, getD, length}
 use mathlib.Core.Bool.{Bool, _||_, cond, false}
 use mathlib.Core.List.{List, [], _∷_, map}
-use mathlib.Core.Logic.{_⊎_, _≢_}
+use mathlib.Core.Logic.{_≢_, _⊎_}
 use mathlib.Core.Path.{_≡_}
 
 -- An AND: the functions of its two operands. Its function and its product steps.

@@ -1,6 +1,6 @@
 -- What a problem and the rows of its vertices must satisfy.
 use Prim.Native.Nat.{_*_, _<_, _≤_, suc, ℕ}
-use Rattle.aig.specs.Lookup.{Holds, firstWord, secondWord}
+use Rattle.aig.specs.Lookup.{HoldsRow, firstWord, secondWord}
 use Rattle.sweep_model.specs.State.{Problem, functionOf, literalFunction}
 use Rattle.truth.specs.Truth.{Perfect, conj, constantly, input}
 use lib.ListN.{length}
@@ -27,7 +27,7 @@ pub record WellFormed (p : Problem) : Type 0 where
 -- Two words a vertex, count vertices: a first vertex holds its own literal twice, and "A gate refers only to vertices below itself."
 pub record Downward (first count : ℕ) (rows : List ℕ) : Type 0 where
   pub long : 2 * count ≤ length rows
-  pub own : (v : ℕ) → v < first → Holds rows v (2 * v) (2 * v)
+  pub own : (v : ℕ) → v < first → HoldsRow rows v (2 * v) (2 * v)
   pub first-below : (v : ℕ) → first ≤ v → v < count → firstWord rows v < 2 * v
   pub second-below : (v : ℕ) → first ≤ v → v < count → secondWord rows v < 2 * v
 

@@ -64,24 +64,24 @@ giveRow v s (done b) = on (swept v (withBook b s))
 giveRow v s (shortOfRows b) = ends (undecided (Rows v)) (withMark v 3 s)
 giveRow v s (shortOfSteps b) = ends (undecided (Steps v)) (withMark v 3 s)
 
-unfoldable pub inputsFrom : Problem → ℕ → ℕ → State → Progress
-inputsFrom p v zero s = on s
-inputsFrom p v (suc n) s =
-    andThen (giveRow v s (addPart (p .limits .rows) (topPart (functionOf p v)) (s .book))) (inputsFrom p (suc v) n)
+unfoldable pub giveInputs : Problem → ℕ → ℕ → State → Progress
+giveInputs p v zero s = on s
+giveInputs p v (suc n) s =
+    andThen (giveRow v s (addPart (p .limits .rows) (topPart (functionOf p v)) (s .book))) (giveInputs p (suc v) n)
 
 -- "If its function or the inverse belongs to a vertex with a diagram": the lowest such vertex of n from w on.
-pub data Twin : Type 0 where
-  at : ℕ → Twin
-  none : Twin
+pub data Candidate : Type 0 where
+  at : ℕ → Candidate
+  none : Candidate
 
-unfoldable pub twinFrom : Problem → List Stage → ℕ → ℕ → ℕ → Twin
+unfoldable pub twinFrom : Problem → List Stage → ℕ → ℕ → ℕ → Candidate
 twinFrom p stages v w zero = none
 twinFrom p stages v w (suc n) =
     let later = twinFrom p stages v (suc w) n in
     cond (has? (stageOf stages w) && alike? (functionOf p v) (functionOf p w)) (at w) later
 
 -- "the two merge and normalising follows": the higher into the lower, inverted where the functions are inverse. "Otherwise it waits."
-unfoldable pub meet : Problem → ℕ → State → Twin → State
+unfoldable pub meet : Problem → ℕ → State → Candidate → State
 meet p v s none = swept v s
 meet p v s (at w) =
     normalise (p .first)
@@ -92,15 +92,15 @@ abbrev pub givenBack : Book → Book → Book
 givenBack old b = record { store = old .store; steps = b .steps }
 
 -- "If its size exceeds the size limit it is dropped and its new rows are given back."
-unfoldable pub drop : ℕ → Book → State → State
-drop v b s = withMark v 2 (withStages (set (s .stages) v dropped) (withBook (givenBack (s .book) b) s))
+unfoldable pub dropVertex : ℕ → Book → State → State
+dropVertex v b s = withMark v 2 (withStages (set (s .stages) v dropped) (withBook (givenBack (s .book) b) s))
 
 -- A product's end: "2 product ended and too large", "1 swept", "3 the vertex named by Rows or Steps". "5. .. after every product the
 -- outputs are looked at".
 unfoldable pub conclude : Problem → ℕ → State → Outcome → Progress
 conclude p v s (done b) =
     cond (ltb (p .limits .size) (size (functionOf p v)))
-    (look p (drop v b s))
+    (look p (dropVertex v b s))
     (look p (meet p v (withBook b s) (twinFrom p (s .stages) v 0 (length (s .stages)))))
 conclude p v s (shortOfRows b) = ends (undecided (Rows v)) (withMark v 3 (withBook (givenBack (s .book) b) s))
 conclude p v s (shortOfSteps b) = ends (undecided (Steps v)) (withMark v 3 (withBook (givenBack (s .book) b) s))
@@ -127,11 +127,11 @@ scanFrom p v zero s = on s
 scanFrom p v (suc n) s = andThen (visit p v s) (scanFrom p (suc v) n)
 
 -- "The waiting vertex of least size opens, lowest number on a tie.": of the stages from vertex v on.
-unfoldable pub smaller : Problem → ℕ → Twin → ℕ
+unfoldable pub smaller : Problem → ℕ → Candidate → ℕ
 smaller p v none = v
 smaller p v (at w) = cond (leb (size (functionOf p v)) (size (functionOf p w))) v w
 
-unfoldable pub pickFrom : Problem → ℕ → List Stage → Twin
+unfoldable pub pickFrom : Problem → ℕ → List Stage → Candidate
 pickFrom p v [] = none
 pickFrom p v (x ∷ xs) =
     let later = pickFrom p (suc v) xs in
@@ -188,17 +188,17 @@ begin p rows =
 unfoldable pub start : Problem → List ℕ → Progress
 start p rows =
     andThen (look p (normalise (p .first) (begin p rows))) λ s.
-    andThen (inputsFrom p 1 (p .first - 1) s) (look p)
+    andThen (giveInputs p 1 (p .first - 1) s) (look p)
 
 -- The verdict and the state that it leaves.
-pub record Answer : Type 0 where
+pub record Result : Type 0 where
   pub verdict : Verdict
   pub left : State
 
-unfoldable pub answerOf : Progress → Answer
-answerOf (ends x s) = record { verdict = x; left = s }
-answerOf (on s) = record { verdict = undecided (cause s); left = s }
+unfoldable pub resultOf : Progress → Result
+resultOf (ends x s) = record { verdict = x; left = s }
+resultOf (on s) = record { verdict = undecided (cause s); left = s }
 
 -- The whole sweep on the entry rows.
-unfoldable pub sweep : Problem → List ℕ → Answer
-sweep p rows = answerOf (andThen (start p rows) (go p))
+unfoldable pub sweep : Problem → List ℕ → Result
+sweep p rows = resultOf (andThen (start p rows) (go p))

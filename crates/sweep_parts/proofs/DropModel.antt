@@ -16,14 +16,14 @@ use Rattle.sweep_model.proofs.Stages.{bare-lacks}
 use Rattle.sweep_model.proofs.Steady.{due-within}
 use Rattle.sweep_model.specs.State.{functionOf, has?, stageOf, withBook, withMark}
 use Rattle.sweep_model.specs.code.Steady.{Due, productOf}
-use Rattle.sweep_model.specs.Sweep.{drop, givenBack}
+use Rattle.sweep_model.specs.Sweep.{dropVertex, givenBack}
 use Rattle.sweep_model.specs.declared.Cause.{Cause}
 use Rattle.sweep_parts.proofs.DrawModel.{drawing-kept}
 use Rattle.sweep_parts.proofs.LookModel.{has-stage}
 use Rattle.sweep_parts.specs.code.Ending.{Closed}
-use Rattle.sweep_parts.specs.code.Meet.{board}
+use Rattle.sweep_parts.specs.code.Meet.{workspace}
 use Rattle.sweep_parts.specs.code.Represents.{Owns, Represents}
-use Rattle.sweep_parts.specs.code.Sheets.{sheets}
+use Rattle.sweep_parts.specs.code.Arrays.{arrays}
 use Rattle.sweep_parts.specs.code.Words.{Words, posed, stateOf, words}
 use Rattle.sweep_parts.specs.declared.end.End.the-variants.{Undecided}
 use Rattle.sweep_parts.specs.declared.task.Task.{Task}
@@ -73,7 +73,7 @@ module _
 
   pub broken-closed :
       (k : ℕ) → k ≤ t .steps → (c : Cause)
-      → Closed t functions (board (w .pairs) (sheets (w .diagrams) (w .stages) after (set (w .marks) v 3))) (w .used) k (Undecided c)
+      → Closed t functions (workspace (w .pairs) (arrays (w .diagrams) (w .stages) after (set (w .marks) v 3))) (w .used) k (Undecided c)
   broken-closed k h c =
       record {
         store = r .given-back .store;
@@ -86,8 +86,8 @@ module _
   abbrev pub droppedWords : ℕ → Words
   droppedWords k = words (w .pairs) (w .diagrams) (withStage (w .stages) v 4) after (set (w .marks) v 2) (w .used) k
 
-  pub dropped-state : (k : ℕ) → stateOf (t .count) (droppedWords k) ≡ drop v (bookOf rows u k) (stateOf (t .count) w)
-  unfolding drop wordStage
+  pub dropped-state : (k : ℕ) → stateOf (t .count) (droppedWords k) ≡ dropVertex v (bookOf rows u k) (stateOf (t .count) w)
+  unfolding dropVertex wordStage
   dropped-state k =
       rw (same-store, take-set-lt (t .count) (w .marks) v 2 (due-inside rep due), stages-set (w .stages) (t .count) v 4 (due-inside rep due) (rep .stages-long)) refl
 

@@ -16,7 +16,7 @@ use Rattle.sweep_graph.proofs.StageLaws.{stage-word}
 use Rattle.sweep_graph.proofs.TakeLaws.{take-room}
 use Rattle.sweep_graph.specs.code.Graph.{Graph}
 use Rattle.sweep_graph.specs.code.Stages.{stageWord, withStage, wordStage}
-use Rattle.sweep_graph.specs.code.Takes.{Held, Room, handedOver, hasWord, held, leave, takeWords, takenDiagrams, takesWords, wakeWords}
+use Rattle.sweep_graph.specs.code.Takes.{Held, TakesRoom, handedOver, hasWord, held, leave, takeWords, takenDiagrams, takesWords, wakeWords}
 use Rattle.sweep_model.proofs.Rows.{row-other}
 use Rattle.sweep_model.proofs.Stages.{has-wake}
 use Rattle.sweep_model.specs.Normalise.{merged?, wake}
@@ -88,7 +88,7 @@ module _ (t : Task) (functions : List Truth) (s : List ℕ) (used : ℕ) where
   DrawnOn v c n = Drawing t functions s used v c n
 
   pub record Handed (h : Held) : Type 0 where
-    pub room : Room (t .count) h
+    pub room : TakesRoom (t .count) h
     pub drawn : Drawn DrawnOn (t .count) h
     pub owners : Owners (t .count) used h
     pub store : Store (h .rows) (t .rows) used

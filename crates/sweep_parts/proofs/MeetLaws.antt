@@ -10,11 +10,11 @@ use Rattle.bdd.specs.code.Owners.{withOwner}
 use Rattle.bdd.specs.code.Rows.{RADIX, highAt, ownerAt}
 use Rattle.sweep_graph.proofs.GraphLaws.{graph-kept, graph-merged}
 use Rattle.sweep_graph.specs.code.Graph.{Graph}
-use Rattle.sweep_graph.specs.code.Takes.{Held, Room, held}
+use Rattle.sweep_graph.specs.code.Takes.{Held, TakesRoom, held}
 use Rattle.sweep_model.proofs.Rows.{row-other}
 use Rattle.sweep_model.specs.Normalise.{normaliseFrom}
-use Rattle.sweep_parts.specs.code.Meet.{Board, MeetAsked, MergeAsked, board, handedIn, heldOf, inverse?, joined, mergedBoard, mergedPairs, metBoard, metWith, twinAt, withHeld}
-use Rattle.sweep_parts.specs.code.Sheets.{Sheets, drawnAt, sheets}
+use Rattle.sweep_parts.specs.code.Meet.{MeetAsked, MergeAsked, Workspace, handedIn, heldOf, inverse?, joined, mergedPairs, mergedWorkspace, metWith, metWorkspace, twinAt, withHeld, workspace}
+use Rattle.sweep_parts.specs.code.Arrays.{Arrays, arrays, drawnAt}
 use Rattle.sweep_parts.specs.declared.task.Task.{Task}
 use Rattle.sweep_parts.specs.declared.twin.Twin.the-variants.{At, None}
 use borrow.Author.Tests.{eq-eqb, ne-eqb}
@@ -87,24 +87,24 @@ module _ {t : Task} {v w : ℕ} {pairs look : List ℕ} {h : Held} (q : MergeAsk
     pub merge-held : {k : Held} → k ≡ handedIn t last h → k ≡ handedIn t (mergedPairs t v w pairs (h .diagrams)) h
     merge-held g = g ∙ ap (λ (l : List ℕ). handedIn t l h) merge-pairs
 
-module _ {t : Task} {v reference size : ℕ} {look : List ℕ} {b : Board} (q : MeetAsked t v reference size look b) where
+module _ {t : Task} {v reference size : ℕ} {look : List ℕ} {b : Workspace} (q : MeetAsked t v reference size look b) where
   -- There is still room once v has its diagram.
-  pub drawn-room : Room (t .count) (heldOf (drawnAt v reference size (b .sheets)))
+  pub drawn-room : TakesRoom (t .count) (heldOf (drawnAt v reference size (b .arrays)))
   unfolding withOwner
   drawn-room =
       record {
-        stages-long = rw (length-set (b .sheets .stages) (2 * v) 1) (q .room .stages-long);
+        stages-long = rw (length-set (b .arrays .stages) (2 * v) 1) (q .room .stages-long);
         diagrams-long = simp length-set (q .room .diagrams-long);
         rows-within = λ x h.
-            rw (length-put (b .sheets .rows) 1 (reference / 2) (highAt (b .sheets .rows) (reference / 2) * RADIX + v))
+            rw (length-put (b .arrays .rows) 1 (reference / 2) (highAt (b .arrays .rows) (reference / 2) * RADIX + v))
             (elim (ℕ-discrete x v) [
-              | yes i ↦ rw (i, row-holds (b .sheets .diagrams) v reference size (omega (arith, q .within, q .room .diagrams-long)) .first) (q .row-within)
-              | no n ↦ rw (row-other (b .sheets .diagrams) v reference size x n .first) (q .room .rows-within x h)
+              | yes i ↦ rw (i, row-holds (b .arrays .diagrams) v reference size (omega (arith, q .within, q .room .diagrams-long)) .first) (q .row-within)
+              | no n ↦ rw (row-other (b .arrays .diagrams) v reference size x n .first) (q .room .rows-within x h)
             ]);
         few = q .room .few;
       }
 
-  module _ {a : Sheets} (e : a ≡ drawnAt v reference size (b .sheets)) (w : ℕ) (o : twinAt (b .sheets .rows) reference ≡ At w) where
+  module _ {a : Arrays} (e : a ≡ drawnAt v reference size (b .arrays)) (w : ℕ) (o : twinAt (b .arrays .rows) reference ≡ At w) where
     pub meet-asks : MergeAsked t v w (b .pairs) look (heldOf a)
     meet-asks =
         record {
@@ -120,14 +120,14 @@ module _ {t : Task} {v reference size : ℕ} {look : List ℕ} {b : Board} (q : 
     pub meet-merged :
         {pairs stages diagrams rows : List ℕ} → pairs ≡ mergedPairs t v w (b .pairs) (a .diagrams)
         → held stages diagrams rows ≡ handedIn t (mergedPairs t v w (b .pairs) (a .diagrams)) (heldOf a)
-        → board pairs (sheets diagrams stages rows (a .marks)) ≡ metBoard t v reference size b
+        → workspace pairs (arrays diagrams stages rows (a .marks)) ≡ metWorkspace t v reference size b
     unfolding metWith
     meet-merged ep eh =
-        ap₂ (λ (l : List ℕ) (h : Held). board l (withHeld h a)) ep eh ∙ ap (λ (x : Sheets). mergedBoard t v w (board (b .pairs) x)) e
-        ∙ ap (metWith t v (board (b .pairs) (drawnAt v reference size (b .sheets)))) (sym o)
+        ap₂ (λ (l : List ℕ) (h : Held). workspace l (withHeld h a)) ep eh ∙ ap (λ (x : Arrays). mergedWorkspace t v w (workspace (b .pairs) x)) e
+        ∙ ap (metWith t v (workspace (b .pairs) (drawnAt v reference size (b .arrays)))) (sym o)
 
   pub meet-alone :
-      {a : Sheets} → a ≡ drawnAt v reference size (b .sheets) → twinAt (b .sheets .rows) reference ≡ None
-      → board (b .pairs) a ≡ metBoard t v reference size b
+      {a : Arrays} → a ≡ drawnAt v reference size (b .arrays) → twinAt (b .arrays .rows) reference ≡ None
+      → workspace (b .pairs) a ≡ metWorkspace t v reference size b
   unfolding metWith
-  meet-alone e o = ap (board (b .pairs)) e ∙ ap (metWith t v (board (b .pairs) (drawnAt v reference size (b .sheets)))) (sym o)
+  meet-alone e o = ap (workspace (b .pairs)) e ∙ ap (metWith t v (workspace (b .pairs) (drawnAt v reference size (b .arrays)))) (sym o)

@@ -34,7 +34,7 @@ use native.Mathlib.Decide.{decLe}
 use native.Mathlib.Omega.{arith}
 
 -- The model's answer that the code's stands for.
-abbrev pub answered : Twin → model.Twin
+abbrev pub answered : Twin → model.Candidate
 answered (At w) = at w
 answered None = none
 
@@ -131,7 +131,7 @@ module _
   unfolding Tells
   twin-models = go (twinAt rows reference) tells (twinFrom (posed t functions) stages v 0 (length stages)) refl
     where
-      go : (o : Twin) → Tells o → (m : model.Twin) → twinFrom (posed t functions) stages v 0 (length stages) ≡ m → m ≡ answered o
+      go : (o : Twin) → Tells o → (m : model.Candidate) → twinFrom (posed t functions) stages v 0 (length stages) ≡ m → m ≡ answered o
       go (At x) y (at z) e =
           ap at
           (twin-one (posed t functions) stages (rep .reachable .apart) v z x

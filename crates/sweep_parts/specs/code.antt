@@ -5,5 +5,5 @@ pub mod Meet
 pub mod Operands
 pub mod Represents
 pub mod Settle
-pub mod Sheets
+pub mod Arrays
 pub mod Words

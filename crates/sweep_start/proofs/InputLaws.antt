@@ -3,7 +3,7 @@ use Prim.Native.Nat.{_*_, _-_, _/_, _<_, _^_, _≤_, ℕ}
 use Rattle.bdd.proofs.DiagramLaws.{constant-reference}
 use Rattle.bdd.proofs.MakeLaws.{MakeAsked}
 use Rattle.bdd.specs.code.Unique.{MadeAt}
-use Rattle.sweep_parts.specs.code.Sheets.{Sheets}
+use Rattle.sweep_parts.specs.code.Arrays.{Arrays}
 use Rattle.sweep_parts.specs.declared.task.Task.{Task}
 use Rattle.sweep_start.specs.code.Inputs.{RowAsked, levelOf}
 use lib.ListN.{length}
@@ -11,7 +11,7 @@ use mathlib.Core.List.{List}
 use mathlib.Core.Path.{refl}
 use native.Mathlib.Omega.{arith}
 
-module _ {t : Task} {v used : ℕ} {a : Sheets} (q : RowAsked t v used a) where
+module _ {t : Task} {v used : ℕ} {a : Arrays} (q : RowAsked t v used a) where
   -- What making it needs.
   pub row-asked : MakeAsked (a .rows) (t .rows) used (levelOf t v) 0 1
   row-asked =

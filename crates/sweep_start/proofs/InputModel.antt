@@ -12,16 +12,16 @@ use Rattle.sweep_model.proofs.Reachable.{input-reachable}
 use Rattle.sweep_model.proofs.Steady.{giving-swept, inputRow}
 use Rattle.sweep_model.specs.State.{functionOf, has?}
 use Rattle.sweep_model.specs.code.Steady.{Giving}
-use Rattle.sweep_model.specs.Sweep.{Progress, andThen, ends, giveRow, inputsFrom, on, topPart, undecided}
+use Rattle.sweep_model.specs.Sweep.{Progress, andThen, ends, giveInputs, giveRow, on, topPart, undecided}
 use Rattle.sweep_model.specs.declared.Cause.the-variants.{Rows}
 use Rattle.sweep_parts.proofs.DrawModel.{Draws, drawn-represents, drawn-state}
 use Rattle.sweep_parts.proofs.LookModel.{has-stage}
 use Rattle.sweep_parts.specs.code.Ending.{verdictOf}
 use Rattle.sweep_parts.specs.code.Represents.{Represents}
-use Rattle.sweep_parts.specs.code.Sheets.{Sheets}
+use Rattle.sweep_parts.specs.code.Arrays.{Arrays}
 use Rattle.sweep_parts.specs.code.Words.{Words, posed, stateOf}
 use Rattle.sweep_parts.specs.declared.task.Task.{Task}
-use Rattle.sweep_start.specs.code.Given.{AllGiven, Frame, Framed, GivenTo, ShortAt, givingFrom, stateIn}
+use Rattle.sweep_start.specs.code.Given.{AllGiven, GivenTo, HasInputContext, InputContext, ShortAt, givingFrom, stateIn}
 use Rattle.sweep_start.specs.code.Inputs.{RowAsked, RowGiven, RowLacked, levelOf}
 use Rattle.sweep_turn.proofs.EndModel.{marked-closed, represents-closed}
 use Rattle.truth.proofs.Parts.{constants-differ, size-input}
@@ -115,7 +115,7 @@ module _ {t : Task} {functions : List Truth} {entry : List ℕ} {w : Words} (rep
         within = omega (arith, rep .count, rep .fit .well-formed .first-within)
 
 -- Vertex v, the next input.
-module _ {t : Task} {x : Frame} {a : Sheets} {used : ℕ} where
+module _ {t : Task} {x : InputContext} {a : Arrays} {used : ℕ} where
   -- What giving it its row needs is there.
   pub given-asked : {v : ℕ} → GivenTo t x a used v → 1 ≤ v → v < t .first → RowAsked t v used a
   given-asked g l h =
@@ -133,7 +133,7 @@ module _ {t : Task} {x : Frame} {a : Sheets} {used : ℕ} where
       }
 
   -- Its row is given.
-  pub given-row : {b : Sheets} {more : ℕ} (v : ℕ) → GivenTo t x a used v → 1 ≤ v → v < t .first → RowGiven t v used a b more
+  pub given-row : {b : Arrays} {more : ℕ} (v : ℕ) → GivenTo t x a used v → 1 ≤ v → v < t .first → RowGiven t v used a b more
       → giveRow v (stateIn t x a used) (inputRow (posed t (x .functions)) v (stateIn t x a used)) ≡ on (stateIn t x b more)
   unfolding giveRow
   given-row zero g l h r = absurd (omega arith)
@@ -141,7 +141,7 @@ module _ {t : Task} {x : Frame} {a : Sheets} {used : ℕ} where
       rw (input-done (g .represents) i h (r .made), r .drawn)
       (ap on (sym (drawn-state (g .represents) (input-draws (g .represents) i h (r .made) (r .long) (g .giving)) (x .steps))))
 
-  pub given-next : {b : Sheets} {more : ℕ} (v : ℕ) → GivenTo t x a used v → 1 ≤ v → v < t .first → RowGiven t v used a b more → GivenTo t x b more (suc v)
+  pub given-next : {b : Arrays} {more : ℕ} (v : ℕ) → GivenTo t x a used v → 1 ≤ v → v < t .first → RowGiven t v used a b more → GivenTo t x b more (suc v)
   given-next zero g l h r = absurd (omega arith)
   given-next {b} {more} (suc i) g l h r =
       let rep = g .represents in
@@ -157,7 +157,7 @@ module _ {t : Task} {x : Frame} {a : Sheets} {used : ℕ} where
       })
 
   -- No row is left for it.
-  pub given-short : {b : Sheets} (v : ℕ) → GivenTo t x a used v → 1 ≤ v → v < t .first → RowLacked t v used a b
+  pub given-short : {b : Arrays} (v : ℕ) → GivenTo t x a used v → 1 ≤ v → v < t .first → RowLacked t v used a b
       → giveRow v (stateIn t x a used) (inputRow (posed t (x .functions)) v (stateIn t x a used)) ≡ ends (undecided (Rows v)) (stateIn t x b used)
   unfolding giveRow
   given-short zero g l h r = absurd (omega arith)
@@ -168,25 +168,25 @@ module _ {t : Task} {x : Frame} {a : Sheets} {used : ℕ} where
 
 -- What follows vertex v.
 giving-turn :
-    (t : Task) (x : Frame) (a : Sheets) (used v : ℕ) → v < t .first
+    (t : Task) (x : InputContext) (a : Arrays) (used v : ℕ) → v < t .first
     → givingFrom t x a used v
     ≡ andThen (giveRow v (stateIn t x a used) (inputRow (posed t (x .functions)) v (stateIn t x a used)))
-    (inputsFrom (posed t (x .functions)) (suc v) (t .first - suc v))
-unfolding inputsFrom
+    (giveInputs (posed t (x .functions)) (suc v) (t .first - suc v))
+unfolding giveInputs
 giving-turn t x a used v h = let e : t .first - v ≡ suc (t .first - suc v) = omega arith in rw e refl
 
 -- The loop: the inputs below v have their rows, and what follows is what followed from the first.
-pub record Along (t : Task) (a₀ : Sheets) (used₀ : ℕ) (a : Sheets) (used v : ℕ) : Type 0 where
+pub record Along (t : Task) (a₀ : Arrays) (used₀ : ℕ) (a : Arrays) (used v : ℕ) : Type 0 where
   pub from : 1 ≤ v
   pub to : v ≤ t .first
-  pub here : (x : Frame) → GivenTo t x a₀ used₀ 1 → GivenTo t x a used v
-  pub ahead : (x : Frame) → GivenTo t x a₀ used₀ 1 → givingFrom t x a used v ≡ givingFrom t x a₀ used₀ 1
+  pub here : (x : InputContext) → GivenTo t x a₀ used₀ 1 → GivenTo t x a used v
+  pub ahead : (x : InputContext) → GivenTo t x a₀ used₀ 1 → givingFrom t x a used v ≡ givingFrom t x a₀ used₀ 1
   pub same-diagrams : length (a .diagrams) ≡ length (a₀ .diagrams)
   pub same-stages : length (a .stages) ≡ length (a₀ .stages)
   pub same-rows : length (a .rows) ≡ length (a₀ .rows)
   pub same-marks : length (a .marks) ≡ length (a₀ .marks)
 
-pub along-begins : {t : Task} {a : Sheets} {used : ℕ} → Framed t a used → Along t a used a used 1
+pub along-begins : {t : Task} {a : Arrays} {used : ℕ} → HasInputContext t a used → Along t a used a used 1
 along-begins f =
     record {
       from = omega arith;
@@ -199,12 +199,12 @@ along-begins f =
       same-marks = refl;
     }
 
-module _ {t : Task} {a₀ : Sheets} {used₀ : ℕ} {a : Sheets} {used v : ℕ} (s : Along t a₀ used₀ a used v) where
-  pub along-asks : Framed t a₀ used₀ → v < t .first → RowAsked t v used a
-  along-asks f h = given-asked (s .here (f .frame) (f .given)) (s .from) h
+module _ {t : Task} {a₀ : Arrays} {used₀ : ℕ} {a : Arrays} {used v : ℕ} (s : Along t a₀ used₀ a used v) where
+  pub along-asks : HasInputContext t a₀ used₀ → v < t .first → RowAsked t v used a
+  along-asks f h = given-asked (s .here (f .context) (f .given)) (s .from) h
 
   pub along-goes-on :
-      {b : Sheets} {more : ℕ} → v < t .first → RowGiven t v used a b more → length (b .diagrams) ≡ length (a .diagrams) → length (b .stages) ≡ length (a .stages)
+      {b : Arrays} {more : ℕ} → v < t .first → RowGiven t v used a b more → length (b .diagrams) ≡ length (a .diagrams) → length (b .stages) ≡ length (a .stages)
       → length (b .rows) ≡ length (a .rows) → length (b .marks) ≡ length (a .marks) → Along t a₀ used₀ b more (v + 1)
   unfolding andThen
   along-goes-on {b} {more} h r same-diagrams same-stages same-rows same-marks =
@@ -214,7 +214,7 @@ module _ {t : Task} {a₀ : Sheets} {used₀ : ℕ} {a : Sheets} {used v : ℕ} 
         to = h;
         here = λ x g. given-next v (s .here x g) (s .from) h r;
         ahead = λ x g.
-            ap (λ (o : Progress). andThen o (inputsFrom (posed t (x .functions)) (suc v) (t .first - suc v))) (sym (given-row v (s .here x g) (s .from) h r))
+            ap (λ (o : Progress). andThen o (giveInputs (posed t (x .functions)) (suc v) (t .first - suc v))) (sym (given-row v (s .here x g) (s .from) h r))
             ∙ sym (giving-turn t x a used v h) ∙ s .ahead x g;
         same-diagrams = same-diagrams ∙ s .same-diagrams;
         same-stages = same-stages ∙ s .same-stages;
@@ -222,18 +222,18 @@ module _ {t : Task} {a₀ : Sheets} {used₀ : ℕ} {a : Sheets} {used v : ℕ} 
         same-marks = same-marks ∙ s .same-marks;
       })
 
-  pub along-short : {b : Sheets} → v < t .first → RowLacked t v used a b → (x : Frame) → GivenTo t x a₀ used₀ 1 → ShortAt t x a₀ used₀ b v used
+  pub along-short : {b : Arrays} → v < t .first → RowLacked t v used a b → (x : InputContext) → GivenTo t x a₀ used₀ 1 → ShortAt t x a₀ used₀ b v used
   unfolding andThen verdictOf
   along-short {b} h r x g =
       record {
         reached =
             sym (s .ahead x g) ∙ giving-turn t x a used v h
-            ∙ ap (λ (o : Progress). andThen o (inputsFrom (posed t (x .functions)) (suc v) (t .first - suc v))) (given-short v (s .here x g) (s .from) h r);
+            ∙ ap (λ (o : Progress). andThen o (giveInputs (posed t (x .functions)) (suc v) (t .first - suc v))) (given-short v (s .here x g) (s .from) h r);
         closed = rw (r .marked) (marked-closed (set (a .marks) v 3) (represents-closed (s .here x g .represents) tt));
       }
 
-  pub along-ends : t .first ≤ v → (x : Frame) → GivenTo t x a₀ used₀ 1 → AllGiven t x a₀ used₀ a used
-  unfolding inputsFrom
+  pub along-ends : t .first ≤ v → (x : InputContext) → GivenTo t x a₀ used₀ 1 → AllGiven t x a₀ used₀ a used
+  unfolding giveInputs
   along-ends h x g =
       let e : v ≡ t .first = omega (arith, s .to) in
       let none : t .first - v ≡ 0 = omega arith in

@@ -11,7 +11,7 @@ use Rattle.sweep_graph.proofs.GraphLaws.{graph-kept}
 use Rattle.sweep_graph.specs.code.Begin.{begun}
 use Rattle.sweep_graph.specs.code.Graph.{Graph}
 use Rattle.sweep_graph.specs.code.Stages.{stageWord, stagesOf, wordStage}
-use Rattle.sweep_graph.specs.code.Takes.{Held, Room, hasWord, held}
+use Rattle.sweep_graph.specs.code.Takes.{Held, TakesRoom, hasWord, held}
 use Rattle.sweep_model.proofs.Reachable.{begin-reachable}
 use Rattle.sweep_model.proofs.Steady.{begin-giving}
 use Rattle.sweep_model.specs.Normalise.{normalise, normaliseFrom}
@@ -19,13 +19,13 @@ use Rattle.sweep_model.specs.State.{has?, opened}
 use Rattle.sweep_model.specs.Sweep.{begin}
 use Rattle.sweep_parts.proofs.HandLaws.{Handed}
 use Rattle.sweep_parts.proofs.NormaliseModel.{Normalises, normalised-represents, normalised-state, sound-graph}
-use Rattle.sweep_parts.specs.code.Meet.{Board, board, handedIn}
+use Rattle.sweep_parts.specs.code.Meet.{Workspace, handedIn, workspace}
 use Rattle.sweep_parts.specs.code.Represents.{Drawing}
 use Rattle.sweep_parts.specs.code.Settle.{stateOn}
-use Rattle.sweep_parts.specs.code.Sheets.{sheets}
+use Rattle.sweep_parts.specs.code.Arrays.{arrays}
 use Rattle.sweep_parts.specs.code.Words.{posed}
 use Rattle.sweep_parts.specs.declared.task.Task.{Task}
-use Rattle.sweep_start.specs.code.Start.{Poses, PreparedFrom, Prepares, SweepAsked}
+use Rattle.sweep_start.specs.code.Start.{HasFunctions, PreparedFrom, Prepares, SweepAsked}
 use Rattle.truth.proofs.Booleans.{clash}
 use Rattle.truth.proofs.Parts.{size-constant}
 use Rattle.truth.specs.Parts.{size}
@@ -50,30 +50,30 @@ begun-has stages count v h e =
           ∙ cleared-word stages (2 * count) (2 * v) (omega arith)))
     ]
 
--- The board of pairs, of what handing over left, and of marks.
-abbrev pub boardWith : List ℕ → Held → List ℕ → Board
-boardWith pairs h marks = board pairs (sheets (h .diagrams) (h .stages) (h .rows) marks)
+-- The workspace of pairs, of what handing over left, and of marks.
+abbrev pub workspaceWith : List ℕ → Held → List ℕ → Workspace
+workspaceWith pairs h marks = workspace pairs (arrays (h .diagrams) (h .stages) (h .rows) marks)
 
-module _ {t : Task} {places : List ℕ} {b : Board} (q : SweepAsked t places b) where
+module _ {t : Task} {places : List ℕ} {b : Workspace} (q : SweepAsked t places b) where
   -- The working graph.
   pub start-graph : Graph (t .first) (t .count) (b .pairs)
-  start-graph = sound-graph (q .poses .fit .well-formed) (q .poses .count) (q .few) (q .poses .fit .sound)
+  start-graph = sound-graph (q .has-functions .fit .well-formed) (q .has-functions .count) (q .few) (q .has-functions .fit .sound)
 
   -- The words that it begins with, with these rows.
   abbrev begunHeld : List ℕ → Held
-  begunHeld rows = held (begun (b .sheets .stages) (t .count)) (cleared (b .sheets .diagrams) (2 * t .count)) rows
+  begunHeld rows = held (begun (b .arrays .stages) (t .count)) (cleared (b .arrays .diagrams) (2 * t .count)) rows
 
   -- There is room in them.
-  start-room : (rows : List ℕ) → Room (t .count) (begunHeld rows)
-  start-room rows = begin-room (t .count) (b .sheets .stages) (b .sheets .diagrams) rows (q .stages-long) (q .diagrams-long) (q .few)
+  start-room : (rows : List ℕ) → TakesRoom (t .count) (begunHeld rows)
+  start-room rows = begin-room (t .count) (b .arrays .stages) (b .arrays .diagrams) rows (q .stages-long) (q .diagrams-long) (q .few)
 
-  module _ {functions : List Truth} (g : Poses t functions (b .pairs)) {rows : List ℕ} (e : Cleared (b .sheets .rows) rows (t .rows)) where
+  module _ {functions : List Truth} (g : HasFunctions t functions (b .pairs)) {rows : List ℕ} (e : Cleared (b .arrays .rows) rows (t .rows)) where
     -- The constant has its diagram, and there are no owners.
     begun-handed : Handed t functions rows 0 (begunHeld rows)
     begun-handed =
         record {
           room = start-room rows;
-          drawn = λ v h has. drawing v h (begun-has (b .sheets .stages) (t .count) v h has);
+          drawn = λ v h has. drawing v h (begun-has (b .arrays .stages) (t .count) v h has);
           owners = record {
             rightly = λ i from to own. absurd (omega arith);
             named = λ v h has row. absurd (omega (arith, row, word v h));
@@ -83,11 +83,11 @@ module _ {t : Task} {places : List ℕ} {b : Board} (q : SweepAsked t places b) 
           long = refl;
         }
       where
-        word : (v : ℕ) → v < t .count → firstWord (cleared (b .sheets .diagrams) (2 * t .count)) v ≡ 0
-        word v h = cleared-word (b .sheets .diagrams) (2 * t .count) (2 * v) (omega arith)
+        word : (v : ℕ) → v < t .count → firstWord (cleared (b .arrays .diagrams) (2 * t .count)) v ≡ 0
+        word v h = cleared-word (b .arrays .diagrams) (2 * t .count) (2 * v) (omega arith)
 
-        other : (v : ℕ) → v < t .count → secondWord (cleared (b .sheets .diagrams) (2 * t .count)) v ≡ 0
-        other v h = cleared-word (b .sheets .diagrams) (2 * t .count) (2 * v + 1) (omega arith)
+        other : (v : ℕ) → v < t .count → secondWord (cleared (b .arrays .diagrams) (2 * t .count)) v ≡ 0
+        other v h = cleared-word (b .arrays .diagrams) (2 * t .count) (2 * v + 1) (omega arith)
 
         constant : Drawing t functions rows 0 0 0 0
         constant =
@@ -98,21 +98,21 @@ module _ {t : Task} {places : List ℕ} {b : Board} (q : SweepAsked t places b) 
             }
 
         drawing : (v : ℕ) → v < t .count → v ≡ 0
-            → Drawing t functions rows 0 v (firstWord (cleared (b .sheets .diagrams) (2 * t .count)) v) (secondWord (cleared (b .sheets .diagrams) (2 * t .count)) v)
+            → Drawing t functions rows 0 v (firstWord (cleared (b .arrays .diagrams) (2 * t .count)) v) (secondWord (cleared (b .arrays .diagrams) (2 * t .count)) v)
         drawing v h i = rw (word v h, other v h, i) constant
 
     -- Stages, marks and rows are those of the model's beginning.
-    begun-stages : begin (posed t functions) (b .pairs) .stages ≡ stagesOf (begun (b .sheets .stages) (t .count)) (t .count)
+    begun-stages : begin (posed t functions) (b .pairs) .stages ≡ stagesOf (begun (b .arrays .stages) (t .count)) (t .count)
     begun-stages =
         sym
-        (subst (λ (n : ℕ). stagesOf (begun (b .sheets .stages) n) n ≡ begin (posed t functions) (b .pairs) .stages) (g .count)
-        (begin-stages (posed t functions) (b .pairs) (b .sheets .stages)
+        (subst (λ (n : ℕ). stagesOf (begun (b .arrays .stages) n) n ≡ begin (posed t functions) (b .pairs) .stages) (g .count)
+        (begin-stages (posed t functions) (b .pairs) (b .arrays .stages)
         (omega (arith, g .fit .well-formed .some-first, g .fit .well-formed .first-within)) (omega (arith, g .count, q .stages-long))))
 
-    begun-marks : take (t .count) (cleared (b .sheets .marks) (t .count)) ≡ begin (posed t functions) (b .pairs) .marks
+    begun-marks : take (t .count) (cleared (b .arrays .marks) (t .count)) ≡ begin (posed t functions) (b .pairs) .marks
     begun-marks =
-        subst (λ (n : ℕ). take n (cleared (b .sheets .marks) n) ≡ begin (posed t functions) (b .pairs) .marks) (g .count)
-        (begin-marks (posed t functions) (b .pairs) (b .sheets .marks))
+        subst (λ (n : ℕ). take n (cleared (b .arrays .marks) n) ≡ begin (posed t functions) (b .pairs) .marks) (g .count)
+        (begin-marks (posed t functions) (b .pairs) (b .arrays .marks))
 
     begun-book : bookOf rows 0 0 ≡ begin (posed t functions) (b .pairs) .book
     unfolding begin storeOf
@@ -135,11 +135,11 @@ module _ {t : Task} {places : List ℕ} {b : Board} (q : SweepAsked t places b) 
         same : b .pairs ≡ begin (posed t functions) (b .pairs) .rows
         same = unfold begin in refl
 
-    -- The board that is left.
-    abbrev last : Board
+    -- The workspace that is left.
+    abbrev last : Workspace
     last =
         let pairs = normaliseFrom (b .pairs) (t .first) (t .count - t .first) in
-        boardWith pairs (handedIn t pairs (begunHeld rows)) (cleared (b .sheets .marks) (t .count))
+        workspaceWith pairs (handedIn t pairs (begunHeld rows)) (cleared (b .arrays .marks) (t .count))
 
     -- Once normalised it is prepared.
     begun-prepared : PreparedFrom t functions b last
@@ -148,29 +148,29 @@ module _ {t : Task} {places : List ℕ} {b : Board} (q : SweepAsked t places b) 
           reached = reached;
           prepared = record {
             represents =
-                normalised-represents begun-normalises (cleared (b .sheets .marks) (t .count)) 0 begun-marks begun-book (q .narrow) (q .short) (q .modest)
-                (rw (cleared-length (b .sheets .marks) (t .count) (q .marks-long)) (q .marks-long));
+                normalised-represents begun-normalises (cleared (b .arrays .marks) (t .count)) 0 begun-marks begun-book (q .narrow) (q .short) (q .modest)
+                (rw (cleared-length (b .arrays .marks) (t .count) (q .marks-long)) (q .marks-long));
             giving = rw reached (begin-giving (g .fit));
           };
         }
       where
         reached : stateOn t last 0 0 ≡ normalise (t .first) (begin (posed t functions) (b .pairs))
-        reached = normalised-state begun-normalises (cleared (b .sheets .marks) (t .count)) 0 begun-marks begun-book
+        reached = normalised-state begun-normalises (cleared (b .arrays .marks) (t .count)) 0 begun-marks begun-book
 
   -- The graph, once normalised.
   pub start-kept : {pairs : List ℕ} → pairs ≡ normaliseFrom (b .pairs) (t .first) (t .count - t .first) → Graph (t .first) (t .count) pairs
   start-kept ep = rw ep (graph-kept start-graph)
 
   module _
-      {stages diagrams rows : List ℕ} (es : stages ≡ begun (b .sheets .stages) (t .count)) (ed : diagrams ≡ cleared (b .sheets .diagrams) (2 * t .count))
+      {stages diagrams rows : List ℕ} (es : stages ≡ begun (b .arrays .stages) (t .count)) (ed : diagrams ≡ cleared (b .arrays .diagrams) (2 * t .count))
     where
       -- There is room for handing over.
-      pub start-held : Room (t .count) (held stages diagrams rows)
+      pub start-held : TakesRoom (t .count) (held stages diagrams rows)
       start-held = rw (es, ed) (start-room rows)
 
       -- What the four calls leave.
       pub start-prepares :
-          {pairs marks : List ℕ} {h : Held} → Cleared (b .sheets .rows) rows (t .rows) → marks ≡ cleared (b .sheets .marks) (t .count)
+          {pairs marks : List ℕ} {h : Held} → Cleared (b .arrays .rows) rows (t .rows) → marks ≡ cleared (b .arrays .marks) (t .count)
           → pairs ≡ normaliseFrom (b .pairs) (t .first) (t .count - t .first) → h ≡ handedIn t pairs (held stages diagrams rows)
-          → Prepares t b (boardWith pairs h marks)
+          → Prepares t b (workspaceWith pairs h marks)
       start-prepares er em ep eh functions g = rw (eh, em, ep, es, ed) (begun-prepared g er)

@@ -3,8 +3,8 @@ use bdd::unique::Made;
 use bdd::unique::make;
 use sweep_parts::draw::draw;
 use sweep_parts::task::Task;
-ghost use Rattle.sweep_parts.specs.code.Sheets.{sheets};
-ghost use Rattle.sweep_start.specs.code.Given.{Framed, GivesRows};
+ghost use Rattle.sweep_parts.specs.code.Arrays.{arrays};
+ghost use Rattle.sweep_start.specs.code.Given.{GivesRows, HasInputContext};
 ghost use Rattle.sweep_start.specs.code.Inputs.{Gives, RowAsked};
 
 // The rows then used, or no row is left.
@@ -23,8 +23,8 @@ fn give_row(
     v: u32,
     used: usize,
 ) -> Given
-    requires { ⌜ RowAsked task v used (sheets (now diagrams) (now stages) (now rows) (now marks)) ⌝ }
-    ensures { λ r. ⌜ Gives task v used (sheets (now (diagrams .entry)) (now (stages .entry)) (now (rows .entry)) (now (marks .entry))) (sheets (now (diagrams .exit)) (now (stages .exit)) (now (rows .exit)) (now (marks .exit))) r ⌝ }
+    requires { ⌜ RowAsked task v used (arrays (now diagrams) (now stages) (now rows) (now marks)) ⌝ }
+    ensures { λ r. ⌜ Gives task v used (arrays (now (diagrams .entry)) (now (stages .entry)) (now (rows .entry)) (now (marks .entry))) (arrays (now (diagrams .exit)) (now (stages .exit)) (now (rows .exit)) (now (marks .exit))) r ⌝ }
 {
     let made = make(rows, used, task.rows, task.inputs + 1 - v as usize, 0, 1);
     match made {
@@ -54,8 +54,8 @@ pub fn give_rows(
     task: Task,
     used: usize,
 ) -> Inputs
-    requires { ⌜ Framed task (sheets (now diagrams) (now stages) (now rows) (now marks)) used ⌝ }
-    ensures { λ r. ⌜ GivesRows task (sheets (now (diagrams .entry)) (now (stages .entry)) (now (rows .entry)) (now (marks .entry))) used (sheets (now (diagrams .exit)) (now (stages .exit)) (now (rows .exit)) (now (marks .exit))) r ⌝ }
+    requires { ⌜ HasInputContext task (arrays (now diagrams) (now stages) (now rows) (now marks)) used ⌝ }
+    ensures { λ r. ⌜ GivesRows task (arrays (now (diagrams .entry)) (now (stages .entry)) (now (rows .entry)) (now (marks .entry))) used (arrays (now (diagrams .exit)) (now (stages .exit)) (now (rows .exit)) (now (marks .exit))) r ⌝ }
 {
     let first = task.first;
     let mut more = used;

@@ -12,8 +12,8 @@ use sweep_parts::look::look;
 use sweep_parts::task::Task;
 use sweep_turn::visit::Going;
 use sweep_turn::visit::after_look;
-ghost use Rattle.sweep_parts.specs.code.Meet.{board};
-ghost use Rattle.sweep_parts.specs.code.Sheets.{sheets};
+ghost use Rattle.sweep_parts.specs.code.Meet.{workspace};
+ghost use Rattle.sweep_parts.specs.code.Arrays.{arrays};
 ghost use Rattle.sweep_start.specs.code.Start.{GivesInputs, GivingIn, Prepares, Starts, SweepAsked};
 
 // No row is used, no vertex but the constant has a diagram, all marks are 0; and the rows of the graph are normalised.
@@ -26,8 +26,8 @@ fn prepare(
     marks: &mut [u8],
     task: Task,
 )
-    requires { ⌜ SweepAsked task (now places) (board (now pairs) (sheets (now diagrams) (now stages) (now rows) (now marks))) ⌝ }
-    ensures { λ _. ⌜ Prepares task (board (now (pairs .entry)) (sheets (now (diagrams .entry)) (now (stages .entry)) (now (rows .entry)) (now (marks .entry)))) (board (now (pairs .exit)) (sheets (now (diagrams .exit)) (now (stages .exit)) (now (rows .exit)) (now (marks .exit)))) ⌝ }
+    requires { ⌜ SweepAsked task (now places) (workspace (now pairs) (arrays (now diagrams) (now stages) (now rows) (now marks))) ⌝ }
+    ensures { λ _. ⌜ Prepares task (workspace (now (pairs .entry)) (arrays (now (diagrams .entry)) (now (stages .entry)) (now (rows .entry)) (now (marks .entry)))) (workspace (now (pairs .exit)) (arrays (now (diagrams .exit)) (now (stages .exit)) (now (rows .exit)) (now (marks .exit)))) ⌝ }
 {
     clear(rows, task.rows);
     begin(stages, diagrams, marks, task.count);
@@ -44,8 +44,8 @@ fn give_inputs(
     marks: &mut [u8],
     task: Task,
 ) -> Going
-    requires { ⌜ GivingIn task (board (now pairs) (sheets (now diagrams) (now stages) (now rows) (now marks))) ⌝ }
-    ensures { λ r. ⌜ GivesInputs task (board (now (pairs .entry)) (sheets (now (diagrams .entry)) (now (stages .entry)) (now (rows .entry)) (now (marks .entry)))) (board (now (pairs .entry)) (sheets (now (diagrams .exit)) (now (stages .exit)) (now (rows .exit)) (now (marks .exit)))) r ⌝ }
+    requires { ⌜ GivingIn task (workspace (now pairs) (arrays (now diagrams) (now stages) (now rows) (now marks))) ⌝ }
+    ensures { λ r. ⌜ GivesInputs task (workspace (now (pairs .entry)) (arrays (now (diagrams .entry)) (now (stages .entry)) (now (rows .entry)) (now (marks .entry)))) (workspace (now (pairs .entry)) (arrays (now (diagrams .exit)) (now (stages .exit)) (now (rows .exit)) (now (marks .exit)))) r ⌝ }
 {
     let inputs = give_rows(diagrams, stages, rows, marks, task, 0);
     match inputs {
@@ -71,8 +71,8 @@ pub fn start(
     marks: &mut [u8],
     task: Task,
 ) -> Going
-    requires { ⌜ SweepAsked task (now places) (board (now pairs) (sheets (now diagrams) (now stages) (now rows) (now marks))) ⌝ }
-    ensures { λ r. ⌜ Starts task (board (now (pairs .entry)) (sheets (now (diagrams .entry)) (now (stages .entry)) (now (rows .entry)) (now (marks .entry)))) (board (now (pairs .exit)) (sheets (now (diagrams .exit)) (now (stages .exit)) (now (rows .exit)) (now (marks .exit)))) r ⌝ }
+    requires { ⌜ SweepAsked task (now places) (workspace (now pairs) (arrays (now diagrams) (now stages) (now rows) (now marks))) ⌝ }
+    ensures { λ r. ⌜ Starts task (workspace (now (pairs .entry)) (arrays (now (diagrams .entry)) (now (stages .entry)) (now (rows .entry)) (now (marks .entry)))) (workspace (now (pairs .exit)) (arrays (now (diagrams .exit)) (now (stages .exit)) (now (rows .exit)) (now (marks .exit)))) r ⌝ }
 {
     prepare(pairs, places, diagrams, stages, rows, marks, task);
     let seen = look(&pairs[..], &diagrams[..], &stages[..], task);

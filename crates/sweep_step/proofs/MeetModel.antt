@@ -21,10 +21,10 @@ use Rattle.sweep_parts.proofs.LookModel.{has-stage}
 use Rattle.sweep_parts.proofs.MeetLaws.{drawn-room, meet-asks, merge-graph}
 use Rattle.sweep_parts.proofs.NormaliseModel.{Normalises, normalised-represents, normalised-state, sound-graph}
 use Rattle.sweep_parts.proofs.TwinModel.{answered, twin-asked, twin-found, twin-models}
-use Rattle.sweep_parts.specs.code.Meet.{MeetAsked, MergeAsked, board, heldOf, inverse?, joined, mergedBoard, metBoard, metWith, twinAt}
+use Rattle.sweep_parts.specs.code.Meet.{MeetAsked, MergeAsked, heldOf, inverse?, joined, mergedWorkspace, metWith, metWorkspace, twinAt, workspace}
 use Rattle.sweep_parts.specs.code.Represents.{Drawing, Represents}
-use Rattle.sweep_parts.specs.code.Settle.{boardOf, onBoard}
-use Rattle.sweep_parts.specs.code.Sheets.{Sheets, drawnAt, sheets}
+use Rattle.sweep_parts.specs.code.Settle.{onWorkspace, workspaceOf}
+use Rattle.sweep_parts.specs.code.Arrays.{Arrays, arrays, drawnAt}
 use Rattle.sweep_parts.specs.code.Words.{Words, posed, stateOf}
 use Rattle.sweep_parts.specs.declared.task.Task.{Task}
 use Rattle.sweep_parts.specs.declared.twin.Twin.the-variants.{At, None}
@@ -54,7 +54,7 @@ module _
   graph-now = sound-graph (rep .fit .well-formed) (rep .count) (rep .few) (rep .reachable .steady .sound)
 
   -- What meeting needs is there.
-  pub meet-asked : (look : List ℕ) → 2 * t .count ≤ length look → MeetAsked t v reference count look (boardOf w rows)
+  pub meet-asked : (look : List ℕ) → 2 * t .count ≤ length look → MeetAsked t v reference count look (workspaceOf w rows)
   meet-asked look long =
       record {
         graph = graph-now;
@@ -72,8 +72,8 @@ module _
         twin = twin-asked rep d;
       }
 
-  abbrev drawn : Sheets
-  drawn = drawnAt v reference count (sheets (w .diagrams) (w .stages) rows (w .marks))
+  abbrev drawn : Arrays
+  drawn = drawnAt v reference count (arrays (w .diagrams) (w .stages) rows (w .marks))
 
   -- Once v has its diagram, rows and owners are right.
   drawn-handed : Handed t functions rows u (heldOf drawn)
@@ -97,11 +97,11 @@ module _
     before = withBook (bookOf rows u k) (stateOf (t .count) w)
 
     -- Without a twin.
-    pub alone-state : twinAt rows reference ≡ None → stateOf (t .count) (onBoard (board (w .pairs) drawn) u k) ≡ meet p v before none
+    pub alone-state : twinAt rows reference ≡ None → stateOf (t .count) (onWorkspace (workspace (w .pairs) drawn) u k) ≡ meet p v before none
     unfolding meet
     alone-state o = drawn-state rep d k
 
-    pub alone-represents : twinAt rows reference ≡ None → Represents t functions entry (onBoard (board (w .pairs) drawn) u k)
+    pub alone-represents : twinAt rows reference ≡ None → Represents t functions entry (onWorkspace (workspace (w .pairs) drawn) u k)
     alone-represents o =
         drawn-represents rep d k
         (product-reachable (rep .fit) due (rep .reachable) (bookOf rows u k) ran small
@@ -180,31 +180,31 @@ module _
             reached = joint-reached;
           }
 
-      pub merged-state : stateOf (t .count) (onBoard (mergedBoard t v x (board (w .pairs) drawn)) u k) ≡ meet p v before (at x)
+      pub merged-state : stateOf (t .count) (onWorkspace (mergedWorkspace t v x (workspace (w .pairs) drawn)) u k) ≡ meet p v before (at x)
       unfolding meet
       merged-state = normalised-state joint-normalises (drawn .marks) k joint-marks joint-book
 
-      pub merged-represents : Represents t functions entry (onBoard (mergedBoard t v x (board (w .pairs) drawn)) u k)
+      pub merged-represents : Represents t functions entry (onWorkspace (mergedWorkspace t v x (workspace (w .pairs) drawn)) u k)
       merged-represents =
           normalised-represents joint-normalises (drawn .marks) k joint-marks joint-book (rep .narrow) (rep .short) (rep .modest)
           (rw (length-set (w .marks) v 1) (rep .marks-long))
 
     -- Either way.
     pub met-state :
-        stateOf (t .count) (onBoard (metBoard t v reference count (boardOf w rows)) u k)
+        stateOf (t .count) (onWorkspace (metWorkspace t v reference count (workspaceOf w rows)) u k)
         ≡ meet p v before (twinFrom p (stagesOf (w .stages) (t .count)) v 0 (length (stagesOf (w .stages) (t .count))))
     unfolding metWith
     met-state = rw (twin-models rep d) (go (twinAt rows reference) refl)
       where
         go : (o : Twin) → twinAt rows reference ≡ o
-            → stateOf (t .count) (onBoard (metWith t v (board (w .pairs) drawn) o) u k) ≡ meet p v before (answered o)
+            → stateOf (t .count) (onWorkspace (metWith t v (workspace (w .pairs) drawn) o) u k) ≡ meet p v before (answered o)
         go None e = alone-state e
         go (At x) e = merged-state x e
 
-    pub met-represents : Represents t functions entry (onBoard (metBoard t v reference count (boardOf w rows)) u k)
+    pub met-represents : Represents t functions entry (onWorkspace (metWorkspace t v reference count (workspaceOf w rows)) u k)
     unfolding metWith
     met-represents = go (twinAt rows reference) refl
       where
-        go : (o : Twin) → twinAt rows reference ≡ o → Represents t functions entry (onBoard (metWith t v (board (w .pairs) drawn) o) u k)
+        go : (o : Twin) → twinAt rows reference ≡ o → Represents t functions entry (onWorkspace (metWith t v (workspace (w .pairs) drawn) o) u k)
         go None e = alone-represents e
         go (At x) e = merged-represents x e

@@ -7,9 +7,9 @@ use Rattle.sweep_graph.specs.code.Stages.{withStage}
 use Rattle.sweep_model.specs.State.{functionOf}
 use Rattle.sweep_parts.proofs.DrawModel.{Draws}
 use Rattle.sweep_parts.proofs.DropModel.{Returns, dropped-represents, dropped-state, due-inside, due-lacks}
-use Rattle.sweep_parts.specs.code.Meet.{Board, MeetAsked, board, metBoard}
-use Rattle.sweep_parts.specs.code.Settle.{Ended, Setting, Settled, wordsBefore}
-use Rattle.sweep_parts.specs.code.Sheets.{sheets}
+use Rattle.sweep_parts.specs.code.Meet.{MeetAsked, Workspace, metWorkspace, workspace}
+use Rattle.sweep_parts.specs.code.Settle.{BeforeProduct, Ended, Settled, wordsBefore}
+use Rattle.sweep_parts.specs.code.Arrays.{arrays}
 use Rattle.sweep_parts.specs.code.Words.{posed}
 use Rattle.sweep_parts.specs.declared.task.Task.{Task}
 use Rattle.sweep_step.proofs.MeetModel.{meet-asked, met-represents, met-state}
@@ -20,18 +20,18 @@ use mathlib.Core.List.{List}
 use mathlib.Core.Path.{_∙_, _≡_, ap, sym}
 use native.Mathlib.Omega.{arith}
 
-module _ {t : Task} {x : Setting} {v reference used kept : ℕ} {b : Board} (e : Ended t x v reference used kept b) where
+module _ {t : Task} {x : BeforeProduct} {v reference used kept : ℕ} {b : Workspace} (e : Ended t x v reference used kept b) where
   -- The reference fits a word.
   pub ended-small : reference < 2 ^ 32
   ended-small = omega (arith, e .within .stored, e .grown .store .room .used, e .grown .store .room .small)
 
   -- The size that was measured.
-  pub ended-size : {after : List ℕ} {c : ℕ} → Sized (b .sheets .rows) after reference c → c ≡ size (functionOf (posed t (x .functions)) v)
+  pub ended-size : {after : List ℕ} {c : ℕ} → Sized (b .arrays .rows) after reference c → c ≡ size (functionOf (posed t (x .functions)) v)
   ended-size s = s .sized (t .inputs) (e .within .fits) ∙ ap size (e .means)
 
-  module _ {after : List ℕ} {c : ℕ} (s : Sized (b .sheets .rows) after reference c) where
+  module _ {after : List ℕ} {c : ℕ} (s : Sized (b .arrays .rows) after reference c) where
     -- What giving back needs is there.
-    pub settle-back : (Store after (t .rows) used × (kept ≤ used)) × ((2 * v < length (b .sheets .stages)) × (v < length (b .sheets .marks)))
+    pub settle-back : (Store after (t .rows) used × (kept ≤ used)) × ((2 * v < length (b .arrays .stages)) × (v < length (b .arrays .marks)))
     settle-back =
         let inside = due-inside (e .represents) (e .due) in (
           (rw (s .same) (e .grown .store), e .grown .more),
@@ -40,12 +40,12 @@ module _ {t : Task} {x : Setting} {v reference used kept : ℕ} {b : Board} (e :
 
     -- It is too large.
     pub settle-drops :
-        {rows stages marks : List ℕ} → t .size < c → GivenBack after rows (t .rows) used kept → length rows ≡ length (b .sheets .rows)
-        → stages ≡ withStage (b .sheets .stages) v 4 → marks ≡ set (b .sheets .marks) v 2
-        → Settled t x v used kept b (board (b .pairs) (sheets (b .sheets .diagrams) stages rows marks)) kept
+        {rows stages marks : List ℕ} → t .size < c → GivenBack after rows (t .rows) used kept → length rows ≡ length (b .arrays .rows)
+        → stages ≡ withStage (b .arrays .stages) v 4 → marks ≡ set (b .arrays .marks) v 2
+        → Settled t x v used kept b (workspace (b .pairs) (arrays (b .arrays .diagrams) stages rows marks)) kept
     settle-drops {rows} large g long es em =
         let f = lt-ltb (t .size) (size (functionOf (posed t (x .functions)) v)) (omega (arith, ended-size s)) in
-        let r : Returns t (wordsBefore x b kept) (b .sheets .rows) rows used =
+        let r : Returns t (wordsBefore x b kept) (b .arrays .rows) rows used =
         record { grown = e .grown; given-back = rw (s .same) at g; long = long ∙ e .long } in
         rw (es, em)
         (record {
@@ -53,7 +53,7 @@ module _ {t : Task} {x : Setting} {v reference used kept : ℕ} {b : Board} (e :
           represents = dropped-represents (e .represents) r (e .due) (x .taken) (e .ran) f;
         })
 
-    ended-draws : Draws t (x .functions) (wordsBefore x b kept) (b .sheets .rows) used v reference c
+    ended-draws : Draws t (x .functions) (wordsBefore x b kept) (b .arrays .rows) used v reference c
     ended-draws =
         record {
           grown = e .grown;
@@ -66,12 +66,12 @@ module _ {t : Task} {x : Setting} {v reference used kept : ℕ} {b : Board} (e :
 
     -- It is met.
     pub settle-asks : (look : List ℕ) → 2 * t .count ≤ length look
-        → MeetAsked t v reference c look (board (b .pairs) (sheets (b .sheets .diagrams) (b .sheets .stages) after (b .sheets .marks)))
+        → MeetAsked t v reference c look (workspace (b .pairs) (arrays (b .arrays .diagrams) (b .arrays .stages) after (b .arrays .marks)))
     settle-asks look long = rw (s .same) (meet-asked (e .represents) ended-draws (e .due) look long)
 
     pub settle-meets :
-        {last : Board} → c ≤ t .size
-        → last ≡ metBoard t v reference c (board (b .pairs) (sheets (b .sheets .diagrams) (b .sheets .stages) after (b .sheets .marks)))
+        {last : Workspace} → c ≤ t .size
+        → last ≡ metWorkspace t v reference c (workspace (b .pairs) (arrays (b .arrays .diagrams) (b .arrays .stages) after (b .arrays .marks)))
         → Settled t x v used kept b last used
     settle-meets few l =
         let f = le-ltb (t .size) (size (functionOf (posed t (x .functions)) v)) (omega (arith, ended-size s)) in

@@ -7,9 +7,9 @@ use sweep_parts::look::look;
 use sweep_parts::operands::take_product;
 use sweep_parts::task::Task;
 ghost use Prim.Native.Nat.{_*_, _≤_};
-ghost use Rattle.sweep_parts.specs.code.Meet.{board};
+ghost use Rattle.sweep_parts.specs.code.Meet.{workspace};
 ghost use Rattle.sweep_parts.specs.code.Settle.{EndedIn};
-ghost use Rattle.sweep_parts.specs.code.Sheets.{sheets};
+ghost use Rattle.sweep_parts.specs.code.Arrays.{arrays};
 ghost use Rattle.sweep_step.specs.code.Multiply.{Concludes, DueIn, Takes};
 ghost use lib.ListN.{length};
 
@@ -45,9 +45,9 @@ fn conclude(
     kept: usize,
     steps: usize,
 ) -> Step
-    requires ended { ⌜ EndedIn task v reference used kept (board (now pairs) (sheets (now diagrams) (now stages) (now rows) (now marks))) ⌝ }
+    requires ended { ⌜ EndedIn task v reference used kept (workspace (now pairs) (arrays (now diagrams) (now stages) (now rows) (now marks))) ⌝ }
     requires long { ⌜ 2 * task .count ≤ length (now places) ⌝ }
-    ensures { λ r. ⌜ Concludes task v reference used kept steps (board (now (pairs .entry)) (sheets (now (diagrams .entry)) (now (stages .entry)) (now (rows .entry)) (now (marks .entry)))) (board (now (pairs .exit)) (sheets (now (diagrams .exit)) (now (stages .exit)) (now (rows .exit)) (now (marks .exit)))) r ⌝ }
+    ensures { λ r. ⌜ Concludes task v reference used kept steps (workspace (now (pairs .entry)) (arrays (now (diagrams .entry)) (now (stages .entry)) (now (rows .entry)) (now (marks .entry)))) (workspace (now (pairs .exit)) (arrays (now (diagrams .exit)) (now (stages .exit)) (now (rows .exit)) (now (marks .exit)))) r ⌝ }
 {
     let left = settle(
         pairs,
@@ -83,9 +83,9 @@ pub fn multiply(
     used: usize,
     steps: usize,
 ) -> Step
-    requires due { ⌜ DueIn task v used steps (board (now pairs) (sheets (now diagrams) (now stages) (now rows) (now marks))) ⌝ }
+    requires due { ⌜ DueIn task v used steps (workspace (now pairs) (arrays (now diagrams) (now stages) (now rows) (now marks))) ⌝ }
     requires long { ⌜ 2 * task .count ≤ length (now places) ⌝ }
-    ensures { λ r. ⌜ Takes task v used steps (board (now (pairs .entry)) (sheets (now (diagrams .entry)) (now (stages .entry)) (now (rows .entry)) (now (marks .entry)))) (board (now (pairs .exit)) (sheets (now (diagrams .exit)) (now (stages .exit)) (now (rows .exit)) (now (marks .exit)))) r ⌝ }
+    ensures { λ r. ⌜ Takes task v used steps (workspace (now (pairs .entry)) (arrays (now (diagrams .entry)) (now (stages .entry)) (now (rows .entry)) (now (marks .entry)))) (workspace (now (pairs .exit)) (arrays (now (diagrams .exit)) (now (stages .exit)) (now (rows .exit)) (now (marks .exit)))) r ⌝ }
 {
     let product = take_product(&pairs[..], &diagrams[..], rows, task, v, used, steps);
     match product {

@@ -4,9 +4,9 @@ use bdd::size::size;
 use sweep_parts::drop::drop_vertex;
 use sweep_parts::task::Task;
 ghost use Prim.Native.Nat.{_*_, _≤_};
-ghost use Rattle.sweep_parts.specs.code.Meet.{board};
-ghost use Rattle.sweep_parts.specs.code.Settle.{Ended, EndedIn, Setting, Settled};
-ghost use Rattle.sweep_parts.specs.code.Sheets.{sheets};
+ghost use Rattle.sweep_parts.specs.code.Meet.{workspace};
+ghost use Rattle.sweep_parts.specs.code.Settle.{BeforeProduct, Ended, EndedIn, Settled};
+ghost use Rattle.sweep_parts.specs.code.Arrays.{arrays};
 ghost use lib.ListN.{length};
 
 // Vertex v, whose product has a reference, is dropped where it is too large, and else met. Gives the rows then used.
@@ -23,9 +23,9 @@ pub fn settle(
     used: usize,
     kept: usize,
 ) -> usize
-    requires ended { ⌜ EndedIn task v reference used kept (board (now pairs) (sheets (now diagrams) (now stages) (now rows) (now marks))) ⌝ }
+    requires ended { ⌜ EndedIn task v reference used kept (workspace (now pairs) (arrays (now diagrams) (now stages) (now rows) (now marks))) ⌝ }
     requires long { ⌜ 2 * task .count ≤ length (now look) ⌝ }
-    ensures { λ r. ⌜ ((x : Setting) → Ended task x v reference used kept (board (now (pairs .entry)) (sheets (now (diagrams .entry)) (now (stages .entry)) (now (rows .entry)) (now (marks .entry)))) → Settled task x v used kept (board (now (pairs .entry)) (sheets (now (diagrams .entry)) (now (stages .entry)) (now (rows .entry)) (now (marks .entry)))) (board (now (pairs .exit)) (sheets (now (diagrams .exit)) (now (stages .exit)) (now (rows .exit)) (now (marks .exit)))) r) ⌝ }
+    ensures { λ r. ⌜ ((x : BeforeProduct) → Ended task x v reference used kept (workspace (now (pairs .entry)) (arrays (now (diagrams .entry)) (now (stages .entry)) (now (rows .entry)) (now (marks .entry)))) → Settled task x v used kept (workspace (now (pairs .entry)) (arrays (now (diagrams .entry)) (now (stages .entry)) (now (rows .entry)) (now (marks .entry)))) (workspace (now (pairs .exit)) (arrays (now (diagrams .exit)) (now (stages .exit)) (now (rows .exit)) (now (marks .exit)))) r) ⌝ }
 {
     let measured = size(rows, used, task.rows, reference);
     if task.size < measured {

@@ -4,10 +4,10 @@ use Rattle.sweep_model.specs.State.{State}
 use Rattle.sweep_model.specs.Sweep.{Progress, ends}
 use Rattle.sweep_parts.specs.code.Ending.{Closed, Ends, Refers, verdictOf}
 use Rattle.sweep_parts.specs.code.Look.{SeenRefers, progressOf}
-use Rattle.sweep_parts.specs.code.Meet.{Board, board}
+use Rattle.sweep_parts.specs.code.Meet.{Workspace, workspace}
 use Rattle.sweep_parts.specs.code.Represents.{Represents}
-use Rattle.sweep_parts.specs.code.Settle.{onBoard, stateOn}
-use Rattle.sweep_parts.specs.code.Sheets.{sheets}
+use Rattle.sweep_parts.specs.code.Settle.{onWorkspace, stateOn}
+use Rattle.sweep_parts.specs.code.Arrays.{arrays}
 use Rattle.sweep_parts.specs.declared.end.End.{End}
 use Rattle.sweep_parts.specs.declared.look.Seen.the-variants.{Decided, Nothing}
 use Rattle.sweep_parts.specs.declared.look.Seen.{Seen}
@@ -21,15 +21,15 @@ use mathlib.Core.Path.{_∙_, _≡_, ap, subst}
 
 -- Words that stand for a state are those of an end whose references are in use.
 pub represents-closed :
-    {t : Task} {functions : List Truth} {entry : List ℕ} {b : Board} {used steps : ℕ} {e : End} → Represents t functions entry (onBoard b used steps)
-    → Refers (b .sheets .rows) used (t .inputs) e → Closed t functions b used steps e
+    {t : Task} {functions : List Truth} {entry : List ℕ} {b : Workspace} {used steps : ℕ} {e : End} → Represents t functions entry (onWorkspace b used steps)
+    → Refers (b .arrays .rows) used (t .inputs) e → Closed t functions b used steps e
 represents-closed rep refers =
     record { store = rep .store; drawn = rep .drawn; refers = refers; counted = rep .reachable .accounted .proper .taken }
 
 -- Whatever the marks are.
 pub marked-closed :
-    {t : Task} {functions : List Truth} {b : Board} {used steps : ℕ} {e : End} (marks : List ℕ) → Closed t functions b used steps e
-    → Closed t functions (board (b .pairs) (sheets (b .sheets .diagrams) (b .sheets .stages) (b .sheets .rows) marks)) used steps e
+    {t : Task} {functions : List Truth} {b : Workspace} {used steps : ℕ} {e : End} (marks : List ℕ) → Closed t functions b used steps e
+    → Closed t functions (workspace (b .pairs) (arrays (b .arrays .diagrams) (b .arrays .stages) (b .arrays .rows) marks)) used steps e
 marked-closed marks c = record { store = c .store; drawn = c .drawn; refers = c .refers; counted = c .counted }
 
 -- The end of what ended, and another where it goes on.
@@ -59,11 +59,11 @@ seen-refers rows inputs used steps Nothing i h = absurd (subst Continues i tt)
 
 -- The sweep ends after a look.
 pub looked-ends :
-    {t : Task} {functions : List Truth} {entry : List ℕ} {b : Board} {used steps : ℕ} {o : Progress} {e : End} (seen : Seen)
-    → Represents t functions entry (onBoard b used steps) → o ≡ progressOf (b .sheets .rows) (t .inputs) (stateOn t b used steps) seen
-    → SeenRefers (b .sheets .rows) used (t .inputs) seen → goingBy seen used steps ≡ Ended e used steps → Ends t functions o b used steps e
+    {t : Task} {functions : List Truth} {entry : List ℕ} {b : Workspace} {used steps : ℕ} {o : Progress} {e : End} (seen : Seen)
+    → Represents t functions entry (onWorkspace b used steps) → o ≡ progressOf (b .arrays .rows) (t .inputs) (stateOn t b used steps) seen
+    → SeenRefers (b .arrays .rows) used (t .inputs) seen → goingBy seen used steps ≡ Ended e used steps → Ends t functions o b used steps e
 looked-ends {t} {b = b} {used = used} {steps = steps} seen rep reached refers i =
     record {
-      reached = reached ∙ seen-ends (b .sheets .rows) (t .inputs) (stateOn t b used steps) used steps seen i;
-      closed = represents-closed rep (seen-refers (b .sheets .rows) (t .inputs) used steps seen i refers);
+      reached = reached ∙ seen-ends (b .arrays .rows) (t .inputs) (stateOn t b used steps) used steps seen i;
+      closed = represents-closed rep (seen-refers (b .arrays .rows) (t .inputs) used steps seen i refers);
     }

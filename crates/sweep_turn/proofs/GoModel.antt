@@ -11,14 +11,14 @@ use Rattle.sweep_model.proofs.Steady.{openedAt}
 use Rattle.sweep_model.specs.State.{stageOf, waits?}
 use Rattle.sweep_model.specs.code.Steady.{Scanning}
 use Rattle.sweep_model.specs.Sweep.{Progress, andThen, go, goFor, pickFrom, turnsLeft}
-use Rattle.sweep_parts.specs.code.Meet.{Board}
+use Rattle.sweep_parts.specs.code.Meet.{Workspace}
 use Rattle.sweep_parts.specs.code.Settle.{stateOn}
 use Rattle.sweep_parts.specs.code.Words.{posed}
 use Rattle.sweep_parts.specs.declared.end.End.{End}
 use Rattle.sweep_parts.specs.declared.task.Task.{Task}
-use Rattle.sweep_step.specs.code.Multiply.{Scene}
+use Rattle.sweep_step.specs.code.Multiply.{Context}
 use Rattle.sweep_turn.proofs.ScanModel.{SameLengths}
-use Rattle.sweep_turn.specs.code.Turn.{Goes, OpenIn, OpenOn, Opens, RestIn, RestOn, firstScene, gone, openedBy}
+use Rattle.sweep_turn.specs.code.Turn.{Goes, OpenIn, OpenOn, Opens, RestIn, RestOn, firstContext, gone, openedBy}
 use Rattle.sweep_turn.specs.declared.visit.Going.the-variants.{Ended, On}
 use Rattle.sweep_turn.specs.declared.visit.Going.{Going}
 use lib.ListN.{length}
@@ -28,20 +28,20 @@ use mathlib.Core.Path.{_∙_, _≡_, ap, refl, subst, sym}
 use native.Mathlib.Omega.{arith}
 
 -- The model's turns from here on.
-abbrev pub goneFrom : Task → Scene → ℕ → ℕ → Board → Progress
+abbrev pub goneFrom : Task → Context → ℕ → ℕ → Workspace → Progress
 goneFrom t x used steps b = go (posed t (x .functions)) (stateOn t b used steps)
 
--- The scene with the turns that are left here.
-abbrev pub nowLeft : Task → Scene → ℕ → ℕ → Board → Scene
-nowLeft t x used steps b = firstScene t (x .functions) (x .entry) b used steps
+-- The context with the turns that are left here.
+abbrev pub nowLeft : Task → Context → ℕ → ℕ → Workspace → Context
+nowLeft t x used steps b = firstContext t (x .functions) (x .entry) b used steps
 
--- The scene with the turns that are left after vertex v has opened.
-abbrev leftAfter : Task → Scene → ℕ → ℕ → ℕ → Board → Scene
+-- The context with the turns that are left after vertex v has opened.
+abbrev leftAfter : Task → Context → ℕ → ℕ → ℕ → Workspace → Context
 leftAfter t x v used steps b =
     record { functions = x .functions; entry = x .entry; turns = turnsLeft (openedAt v (stateOn t b used steps) .stages) }
 
 -- Between two turns any bound that is not below the turns left serves.
-module _ {t : Task} {x : Scene} {used steps : ℕ} {b : Board} (o : RestOn t x used steps b) where
+module _ {t : Task} {x : Context} {used steps : ℕ} {b : Workspace} (o : RestOn t x used steps b) where
   -- The turns left here are such a bound.
   rests-now : RestOn t (nowLeft t x used steps b) used steps b
   rests-now = record { represents = o .represents; scanning = scanning-budget (turnsLeft (stateOn t b used steps .stages)) (o .scanning) (omega arith) }
@@ -53,26 +53,26 @@ module _ {t : Task} {x : Scene} {used steps : ℕ} {b : Board} (o : RestOn t x u
       (subst (λ (n : ℕ). Scanning (posed t (x .functions)) (x .turns) n (stateOn t b used steps)) (sym (o .represents .count)) (o .scanning))
 
   -- Waiting vertices have their sizes.
-  sized : Sized (posed t (x .functions)) (b .sheets .stages) (b .sheets .diagrams) 0 (t .count)
+  sized : Sized (posed t (x .functions)) (b .arrays .stages) (b .arrays .diagrams) 0 (t .count)
   sized u l = o .represents .drawn u (omega (arith, l .within)) (waits-has _ (l .waits)) .sized
 
   -- What is picked is the model's pick.
   pick-model :
-      {q : Picked} → q ≡ leastFrom (b .sheets .stages) (b .sheets .diagrams) 0 (t .count)
+      {q : Picked} → q ≡ leastFrom (b .arrays .stages) (b .arrays .diagrams) 0 (t .count)
       → pickFrom (posed t (x .functions)) 0 (stateOn t b used steps .stages) ≡ twinOf q
-  pick-model e = sym (ap twinOf e ∙ pick-models (posed t (x .functions)) (b .sheets .stages) (b .sheets .diagrams) (t .count) sized)
+  pick-model e = sym (ap twinOf e ∙ pick-models (posed t (x .functions)) (b .arrays .stages) (b .arrays .diagrams) (t .count) sized)
 
   -- Vertex v is picked.
-  module _ (v : ℕ) (e : leastFrom (b .sheets .stages) (b .sheets .diagrams) 0 (t .count) ≡ At v) where
+  module _ (v : ℕ) (e : leastFrom (b .arrays .stages) (b .arrays .diagrams) 0 (t .count) ≡ At v) where
     -- It waits, and is one of the vertices.
-    least : Least (b .sheets .stages) 0 (t .count) v
-    least = least-is (b .sheets .stages) (b .sheets .diagrams) (t .count) 0 v e
+    least : Least (b .arrays .stages) 0 (t .count) v
+    least = least-is (b .arrays .stages) (b .arrays .diagrams) (t .count) 0 v e
 
     inside : v < t .count
     inside = omega (arith, least .within)
 
     picked-waits : waits? (stageOf (stateOn t b used steps .stages) v) ≡ true
-    picked-waits = ap waits? (stage-at (b .sheets .stages) (t .count) v inside) ∙ least .waits
+    picked-waits = ap waits? (stage-at (b .arrays .stages) (t .count) v inside) ∙ least .waits
 
     -- Its turn is one of those left.
     one-turn : turnsLeft (stateOn t b used steps .stages) ≡ suc (leftAfter t x v used steps b .turns)
@@ -100,14 +100,14 @@ module _ {t : Task} {x : Scene} {used steps : ℕ} {b : Board} (o : RestOn t x u
         (go-turns (posed t (x .functions)) (leftAfter t x v used steps b .turns) (stateOn t b used steps) v (pick-model (sym e)))
 
 -- What the loop keeps: the last scan has come to its end, the model goes on as it went at first, and the lengths are those at first.
-pub record Turning (t : Task) (used₀ steps₀ : ℕ) (b₀ : Board) (places₀ : List ℕ) (used steps : ℕ) (b : Board) (places : List ℕ) : Type 0 where
-  pub here : (x : Scene) → RestOn t x used₀ steps₀ b₀ → RestOn t (nowLeft t x used steps b) used steps b
-  pub ahead : (x : Scene) → RestOn t x used₀ steps₀ b₀ → goneFrom t x used steps b ≡ gone t x used₀ steps₀ b₀
+pub record Turning (t : Task) (used₀ steps₀ : ℕ) (b₀ : Workspace) (places₀ : List ℕ) (used steps : ℕ) (b : Workspace) (places : List ℕ) : Type 0 where
+  pub here : (x : Context) → RestOn t x used₀ steps₀ b₀ → RestOn t (nowLeft t x used steps b) used steps b
+  pub ahead : (x : Context) → RestOn t x used₀ steps₀ b₀ → goneFrom t x used steps b ≡ gone t x used₀ steps₀ b₀
   pub same : SameLengths b₀ b
   pub same-places : length places ≡ length places₀
 
 -- It holds at first.
-pub turns-begin : {t : Task} {used steps : ℕ} {b : Board} {places : List ℕ} → Turning t used steps b places used steps b places
+pub turns-begin : {t : Task} {used steps : ℕ} {b : Workspace} {places : List ℕ} → Turning t used steps b places used steps b places
 turns-begin =
     record {
       here = λ x o. rests-now o;
@@ -117,23 +117,23 @@ turns-begin =
     }
 
 module _
-    {t : Task} {used₀ steps₀ : ℕ} {b₀ : Board} {places₀ : List ℕ} {used steps : ℕ} {b : Board} {places : List ℕ}
+    {t : Task} {used₀ steps₀ : ℕ} {b₀ : Workspace} {places₀ : List ℕ} {used steps : ℕ} {b : Workspace} {places : List ℕ}
     (s : Turning t used₀ steps₀ b₀ places₀ used steps b places) where
   -- The pick has its words.
-  pub pick-asks : RestIn t used₀ steps₀ b₀ → (2 * t .count ≤ length (b .sheets .stages)) × (2 * t .count ≤ length (b .sheets .diagrams))
-  pick-asks i = let r = s .here (i .scene) (i .on) .represents in (r .stages-long, r .diagrams-long)
+  pub pick-asks : RestIn t used₀ steps₀ b₀ → (2 * t .count ≤ length (b .arrays .stages)) × (2 * t .count ≤ length (b .arrays .diagrams))
+  pick-asks i = let r = s .here (i .context) (i .on) .represents in (r .stages-long, r .diagrams-long)
 
-  module _ {v : ℕ} {q : Picked} (f : q ≡ At v) (e : q ≡ leastFrom (b .sheets .stages) (b .sheets .diagrams) 0 (t .count)) where
+  module _ {v : ℕ} {q : Picked} (f : q ≡ At v) (e : q ≡ leastFrom (b .arrays .stages) (b .arrays .diagrams) 0 (t .count)) where
     -- The picked vertex can open.
     pub turn-asks : RestIn t used₀ steps₀ b₀ → OpenIn t v used steps b
-    turn-asks i = record { scene = _; on = picked-opens (s .here (i .scene) (i .on)) v (sym e ∙ f) }
+    turn-asks i = record { context = _; on = picked-opens (s .here (i .context) (i .on)) v (sym e ∙ f) }
 
-    module _ (after : Board) {g : Going} (opens : Opens t v used steps b after g) where
+    module _ (after : Workspace) {g : Going} (opens : Opens t v used steps b after g) where
       module _ {u k : ℕ} (h : g ≡ On u k) where
         -- Fewer turns are left.
         pub turns-fall : RestIn t used₀ steps₀ b₀ → turnsLeft (stateOn t after u k .stages) < turnsLeft (stateOn t b used steps .stages)
         turns-fall i =
-            let o = s .here (i .scene) (i .on) in
+            let o = s .here (i .context) (i .on) in
             let r = subst (Opens t v used steps b after) h opens _ (picked-opens o v (sym e ∙ f)) in
             omega (arith, one-turn o v (sym e ∙ f), r .rests .scanning .budget)
 
@@ -174,7 +174,7 @@ module _
 
   -- None waits.
   pub turns-end :
-      {q : Picked} → q ≡ None → q ≡ leastFrom (b .sheets .stages) (b .sheets .diagrams) 0 (t .count) → Goes t used₀ steps₀ b₀ b (On used steps)
+      {q : Picked} → q ≡ None → q ≡ leastFrom (b .arrays .stages) (b .arrays .diagrams) 0 (t .count) → Goes t used₀ steps₀ b₀ b (On used steps)
   unfolding go
   turns-end f e = λ x o.
       record {

@@ -1,5 +1,5 @@
 -- A vertex opened: the words stand for the model's state.
-use Prim.Native.Nat.{ℕ, _*_, _<_}
+use Prim.Native.Nat.{_*_, _<_, ℕ}
 use Rattle.sweep_graph.proofs.StageLaws.{stages-set}
 use Rattle.sweep_graph.specs.code.Stages.{withStage, wordStage}
 use Rattle.sweep_graph.specs.code.Takes.{hasWord}
@@ -16,7 +16,7 @@ use lib.ListN.{length-set}
 use lib.Seq.{getD-set-other, getD-set-same}
 use mathlib.Core.Bool.{true}
 use mathlib.Core.List.{List}
-use mathlib.Core.Path.{_≡_, _∙_, ap, refl, sym}
+use mathlib.Core.Path.{_∙_, _≡_, ap, refl, sym}
 use native.Mathlib.Decide.{ℕ-discrete}
 use native.Mathlib.Omega.{arith}
 

@@ -1,11 +1,11 @@
 -- The loop of a scan: what follows is what followed from its first vertex.
 use Prim.Native.Nat.{_+_, _-_, _<_, _≤_, suc, ℕ}
 use Rattle.sweep_model.specs.Sweep.{Progress, andThen, scanFrom}
-use Rattle.sweep_parts.specs.code.Meet.{Board}
+use Rattle.sweep_parts.specs.code.Meet.{Workspace}
 use Rattle.sweep_parts.specs.code.Words.{posed}
 use Rattle.sweep_parts.specs.declared.end.End.{End}
 use Rattle.sweep_parts.specs.declared.task.Task.{Task}
-use Rattle.sweep_step.specs.code.Multiply.{Scene}
+use Rattle.sweep_step.specs.code.Multiply.{Context}
 use Rattle.sweep_turn.specs.code.Scan.{Scans, scannedFrom}
 use Rattle.sweep_turn.specs.code.Visit.{ScanIn, ScanOn, Visits, visited}
 use Rattle.sweep_turn.specs.declared.visit.Going.the-variants.{Ended, On}
@@ -18,28 +18,28 @@ use native.Mathlib.Omega.{arith}
 
 -- What follows the visit of vertex v.
 scan-turn :
-    (t : Task) (x : Scene) (v used steps : ℕ) (b : Board) → v < t .count
+    (t : Task) (x : Context) (v used steps : ℕ) (b : Workspace) → v < t .count
     → scannedFrom t x v used steps b ≡ andThen (visited t x v used steps b) (scanFrom (posed t (x .functions)) (suc v) (t .count - suc v))
 unfolding scanFrom
 scan-turn t x v used steps b h = let e : t .count - v ≡ suc (t .count - suc v) = omega arith in rw e refl
 
 -- Two boards with as many words.
-pub record SameLengths (b c : Board) : Type 0 where
+pub record SameLengths (b c : Workspace) : Type 0 where
   pub pairs : length (c .pairs) ≡ length (b .pairs)
-  pub diagrams : length (c .sheets .diagrams) ≡ length (b .sheets .diagrams)
-  pub stages : length (c .sheets .stages) ≡ length (b .sheets .stages)
-  pub rows : length (c .sheets .rows) ≡ length (b .sheets .rows)
-  pub marks : length (c .sheets .marks) ≡ length (b .sheets .marks)
+  pub diagrams : length (c .arrays .diagrams) ≡ length (b .arrays .diagrams)
+  pub stages : length (c .arrays .stages) ≡ length (b .arrays .stages)
+  pub rows : length (c .arrays .rows) ≡ length (b .arrays .rows)
+  pub marks : length (c .arrays .marks) ≡ length (b .arrays .marks)
 
-pub record Scanned (t : Task) (from used₀ steps₀ : ℕ) (b₀ : Board) (places₀ : List ℕ) (v used steps : ℕ) (b : Board) (places : List ℕ) : Type 0 where
+pub record Scanned (t : Task) (from used₀ steps₀ : ℕ) (b₀ : Workspace) (places₀ : List ℕ) (v used steps : ℕ) (b : Workspace) (places : List ℕ) : Type 0 where
   pub to : v ≤ t .count
-  pub here : (x : Scene) → ScanOn t x from used₀ steps₀ b₀ → ScanOn t x v used steps b
-  pub ahead : (x : Scene) → ScanOn t x from used₀ steps₀ b₀ → scannedFrom t x v used steps b ≡ scannedFrom t x from used₀ steps₀ b₀
+  pub here : (x : Context) → ScanOn t x from used₀ steps₀ b₀ → ScanOn t x v used steps b
+  pub ahead : (x : Context) → ScanOn t x from used₀ steps₀ b₀ → scannedFrom t x v used steps b ≡ scannedFrom t x from used₀ steps₀ b₀
   pub same : SameLengths b₀ b
   pub same-places : length places ≡ length places₀
 
 pub scan-begins :
-    {t : Task} {from used steps : ℕ} {b : Board} {places : List ℕ} → from ≤ t .count → Scanned t from used steps b places from used steps b places
+    {t : Task} {from used steps : ℕ} {b : Workspace} {places : List ℕ} → from ≤ t .count → Scanned t from used steps b places from used steps b places
 scan-begins h =
     record {
       to = h;
@@ -50,13 +50,13 @@ scan-begins h =
     }
 
 module _
-    {t : Task} {from used₀ steps₀ : ℕ} {b₀ : Board} {places₀ : List ℕ} {v used steps : ℕ} {b : Board} {places : List ℕ}
+    {t : Task} {from used₀ steps₀ : ℕ} {b₀ : Workspace} {places₀ : List ℕ} {v used steps : ℕ} {b : Workspace} {places : List ℕ}
     (s : Scanned t from used₀ steps₀ b₀ places₀ v used steps b places) where
   pub scan-asks : ScanIn t from used₀ steps₀ b₀ → ScanIn t v used steps b
-  scan-asks i = record { scene = i .scene; here = s .here (i .scene) (i .here) }
+  scan-asks i = record { context = i .context; here = s .here (i .context) (i .here) }
 
   pub scan-goes-on :
-      (after : Board) (last : List ℕ) {g : Going} {u k : ℕ} → v < t .count → g ≡ On u k → Visits t v used steps b after g → SameLengths b after
+      (after : Workspace) (last : List ℕ) {g : Going} {u k : ℕ} → v < t .count → g ≡ On u k → Visits t v used steps b after g → SameLengths b after
       → length last ≡ length places → Scanned t from used₀ steps₀ b₀ places₀ (v + 1) u k after last
   unfolding andThen
   scan-goes-on after last {u = u} {k = k} h e visits same same-places =
@@ -79,7 +79,7 @@ module _
       })
 
   pub scan-stops :
-      (after : Board) {g : Going} {e : End} {u k : ℕ} → v < t .count → g ≡ Ended e u k → Visits t v used steps b after g
+      (after : Workspace) {g : Going} {e : End} {u k : ℕ} → v < t .count → g ≡ Ended e u k → Visits t v used steps b after g
       → Scans t from used₀ steps₀ b₀ after (Ended e u k)
   unfolding andThen
   scan-stops after h e visits = λ x o.

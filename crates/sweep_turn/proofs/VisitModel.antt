@@ -13,7 +13,7 @@ use Rattle.sweep_model.specs.Sweep.{Verdict, on, ready?, visit}
 use Rattle.sweep_model.specs.declared.Cause.the-variants.{Rows, Steps}
 use Rattle.sweep_parts.specs.code.Ending.{Ends}
 use Rattle.sweep_parts.specs.code.Look.{progressOf}
-use Rattle.sweep_parts.specs.code.Meet.{Board}
+use Rattle.sweep_parts.specs.code.Meet.{Workspace}
 use Rattle.sweep_parts.specs.code.Settle.{stateOn}
 use Rattle.sweep_parts.specs.code.Words.{posed}
 use Rattle.sweep_parts.specs.declared.end.End.the-variants.{Undecided}
@@ -21,7 +21,7 @@ use Rattle.sweep_parts.specs.declared.end.End.{End}
 use Rattle.sweep_parts.specs.declared.look.Seen.the-variants.{Decided, Nothing}
 use Rattle.sweep_parts.specs.declared.look.Seen.{Seen}
 use Rattle.sweep_parts.specs.declared.task.Task.{Task}
-use Rattle.sweep_step.specs.code.Multiply.{DueOn, Looked, Scene, Takes, multiplied}
+use Rattle.sweep_step.specs.code.Multiply.{Context, DueOn, Looked, Takes, multiplied}
 use Rattle.sweep_step.specs.declared.multiply.Step.the-variants as step
 use Rattle.sweep_step.specs.declared.multiply.Step.{Step}
 use Rattle.sweep_turn.proofs.EndModel.{looked-ends}
@@ -64,7 +64,7 @@ visit-scans {p} {entry} fit n v s z h steady scanning e =
     opened : {y : State} → Claim (Reached fit keeps n (suc v)) nothing (on y) → Reached fit keeps n (suc v) y
     opened (goes-on k) = k
 
-module _ {t : Task} {x : Scene} {v used steps : ℕ} {b : Board} (h : ScanOn t x v used steps b) (inside : v < t .count) where
+module _ {t : Task} {x : Context} {v used steps : ℕ} {b : Workspace} (h : ScanOn t x v used steps b) (inside : v < t .count) where
   rows-down : Downward (t .first) (t .count) (b .pairs)
   rows-down =
       subst (λ (n : ℕ). Downward (t .first) n (b .pairs)) (h .represents .count) (h .represents .reachable .steady .sound .downward)
@@ -77,7 +77,7 @@ module _ {t : Task} {x : Scene} {v used steps : ℕ} {b : Board} (h : ScanOn t x
       ]
 
   -- What the test needs is there.
-  pub ready-asked : ReadyAsked v (b .pairs) (b .sheets .stages)
+  pub ready-asked : ReadyAsked v (b .pairs) (b .arrays .stages)
   ready-asked =
       record {
         stage = omega (arith, h .represents .stages-long);
@@ -87,17 +87,17 @@ module _ {t : Task} {x : Scene} {v used steps : ℕ} {b : Board} (h : ScanOn t x
       }
 
   -- The test is the model's.
-  ready-models : ready? (posed t (x .functions)) v (stateOn t b used steps) ≡ readyAt t v (b .pairs) (b .sheets .stages)
+  ready-models : ready? (posed t (x .functions)) v (stateOn t b used steps) ≡ readyAt t v (b .pairs) (b .arrays .stages)
   unfolding ready? readyAt
   ready-models =
       rw (
-        stage-at (b .sheets .stages) (t .count) v inside,
-        stage-at (b .sheets .stages) (t .count) (vertexOf (firstWord (b .pairs) v)) (omega (arith, word-below .0)),
-        stage-at (b .sheets .stages) (t .count) (vertexOf (secondWord (b .pairs) v)) (omega (arith, word-below .1)),
+        stage-at (b .arrays .stages) (t .count) v inside,
+        stage-at (b .arrays .stages) (t .count) (vertexOf (firstWord (b .pairs) v)) (omega (arith, word-below .0)),
+        stage-at (b .arrays .stages) (t .count) (vertexOf (secondWord (b .pairs) v)) (omega (arith, word-below .1)),
       ) refl
 
   -- A vertex that is ready is due.
-  pub ready-due : {r : Bool} → r ≡ readyAt t v (b .pairs) (b .sheets .stages) → r ≡ true → DueOn t x v used steps b
+  pub ready-due : {r : Bool} → r ≡ readyAt t v (b .pairs) (b .arrays .stages) → r ≡ true → DueOn t x v used steps b
   unfolding ready?
   ready-due er e =
       let p = posed t (x .functions) in
@@ -120,7 +120,7 @@ module _ {t : Task} {x : Scene} {v used steps : ℕ} {b : Board} (h : ScanOn t x
         };
       }
 
-  visit-ready : readyAt t v (b .pairs) (b .sheets .stages) ≡ true → visited t x v used steps b ≡ multiplied t x v used steps b
+  visit-ready : readyAt t v (b .pairs) (b .arrays .stages) ≡ true → visited t x v used steps b ≡ multiplied t x v used steps b
   unfolding visit
   visit-ready e =
       ap (λ (c : Bool). elim c [ true ↦ multiplied t x v used steps b | false ↦ on (stateOn t b used steps) ]) (ready-models ∙ e)
@@ -151,28 +151,28 @@ module _ (t : Task) (v : ℕ) (pairs stages : List ℕ) where
       unfolding readyAt
       ready-open e er ed = rw (le-leb (t .first) v made, ← es, ← ea, is-bare, ← el, ← ec, e, ← er, ← ed) refl
 
-module _ (t : Task) (v used steps : ℕ) (b : Board) (inside : v < t .count) {r : Bool} (er : r ≡ readyAt t v (b .pairs) (b .sheets .stages)) where
+module _ (t : Task) (v used steps : ℕ) (b : Workspace) (inside : v < t .count) {r : Bool} (er : r ≡ readyAt t v (b .pairs) (b .arrays .stages)) where
   -- A vertex that is ready has its product taken.
-  visit-product : r ≡ true → {x : Scene} → ScanOn t x v used steps b → visited t x v used steps b ≡ multiplied t x v used steps b
+  visit-product : r ≡ true → {x : Context} → ScanOn t x v used steps b → visited t x v used steps b ≡ multiplied t x v used steps b
   visit-product e h = visit-ready h inside (sym er ∙ e)
 
   -- What was seen ends the sweep.
   visit-seen :
-      r ≡ true → (after : Board) (s : Seen) (u k : ℕ) {i : End} → goingBy s u k ≡ Ended i u k → Takes t v used steps b after (step.Looked s u k)
-      → (x : Scene) → ScanOn t x v used steps b → Ends t (x .functions) (visited t x v used steps b) after u k i
+      r ≡ true → (after : Workspace) (s : Seen) (u k : ℕ) {i : End} → goingBy s u k ≡ Ended i u k → Takes t v used steps b after (step.Looked s u k)
+      → (x : Context) → ScanOn t x v used steps b → Ends t (x .functions) (visited t x v used steps b) after u k i
   visit-seen e after s u k i took x h =
       let l = took x (ready-due h inside er e) in
       looked-ends s (l .represents) (visit-product e h ∙ l .reached) (l .refers) i
 
   -- A limit ends it.
   visit-short :
-      r ≡ true → (after : Board) (u k : ℕ) (i : End) → ((x : Scene) → DueOn t x v used steps b → Ends t (x .functions) (multiplied t x v used steps b) after u k i)
-      → (x : Scene) → ScanOn t x v used steps b → Ends t (x .functions) (visited t x v used steps b) after u k i
+      r ≡ true → (after : Workspace) (u k : ℕ) (i : End) → ((x : Context) → DueOn t x v used steps b → Ends t (x .functions) (multiplied t x v used steps b) after u k i)
+      → (x : Context) → ScanOn t x v used steps b → Ends t (x .functions) (visited t x v used steps b) after u k i
   visit-short e after u k i took x h =
       let l = took x (ready-due h inside er e) in
       record { reached = visit-product e h ∙ l .reached; closed = l .closed }
 
-  visit-takes : r ≡ true → (after : Board) (o : Step) → Takes t v used steps b after o → Visits t v used steps b after (goingOf v o)
+  visit-takes : r ≡ true → (after : Workspace) (o : Step) → Takes t v used steps b after o → Visits t v used steps b after (goingOf v o)
   unfolding progressOf
   visit-takes e after (step.Looked (Decided i) u k) took = visit-seen e after (Decided i) u k refl took
   visit-takes e after (step.Looked Nothing u k) took = λ x h.
@@ -183,11 +183,11 @@ module _ (t : Task) (v used steps : ℕ) (b : Board) (inside : v < t .count) {r 
   visit-takes e after (step.Steps u k) took = visit-short e after u k (Undecided (Steps v)) took
 
   pub visit-went :
-      r ≡ true → (after : Board) (o : Step) {g : Going} → g ≡ goingOf v o → Takes t v used steps b after o → Visits t v used steps b after g
+      r ≡ true → (after : Workspace) (o : Step) {g : Going} → g ≡ goingOf v o → Takes t v used steps b after o → Visits t v used steps b after g
   visit-went e after o eg took = subst (Visits t v used steps b after) (sym eg) (visit-takes e after o took)
 
   -- Another is passed.
-  pub visit-passes : r ≡ false → (x : Scene) → ScanOn t x v used steps b → WentOn t x v used steps b b used steps
+  pub visit-passes : r ≡ false → (x : Context) → ScanOn t x v used steps b → WentOn t x v used steps b b used steps
   unfolding visit
   visit-passes e x h =
       record {

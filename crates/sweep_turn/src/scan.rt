@@ -3,8 +3,8 @@ use crate::visit::Going;
 use crate::visit::visit;
 use sweep_parts::task::Task;
 ghost use Prim.Native.Nat.{_*_, _≤_};
-ghost use Rattle.sweep_parts.specs.code.Meet.{board};
-ghost use Rattle.sweep_parts.specs.code.Sheets.{sheets};
+ghost use Rattle.sweep_parts.specs.code.Meet.{workspace};
+ghost use Rattle.sweep_parts.specs.code.Arrays.{arrays};
 ghost use Rattle.sweep_turn.specs.code.Scan.{Scans};
 ghost use Rattle.sweep_turn.specs.code.Visit.{ScanIn};
 ghost use lib.ListN.{length};
@@ -21,9 +21,9 @@ pub fn scan(
     used: usize,
     steps: usize,
 ) -> Going
-    requires scan { ⌜ ScanIn task from used steps (board (now pairs) (sheets (now diagrams) (now stages) (now rows) (now marks))) ⌝ }
+    requires scan { ⌜ ScanIn task from used steps (workspace (now pairs) (arrays (now diagrams) (now stages) (now rows) (now marks))) ⌝ }
     requires long { ⌜ (from ≤ task .count) × (2 * task .count ≤ length (now places)) ⌝ }
-    ensures { λ r. ⌜ Scans task from used steps (board (now (pairs .entry)) (sheets (now (diagrams .entry)) (now (stages .entry)) (now (rows .entry)) (now (marks .entry)))) (board (now (pairs .exit)) (sheets (now (diagrams .exit)) (now (stages .exit)) (now (rows .exit)) (now (marks .exit)))) r ⌝ }
+    ensures { λ r. ⌜ Scans task from used steps (workspace (now (pairs .entry)) (arrays (now (diagrams .entry)) (now (stages .entry)) (now (rows .entry)) (now (marks .entry)))) (workspace (now (pairs .exit)) (arrays (now (diagrams .exit)) (now (stages .exit)) (now (rows .exit)) (now (marks .exit)))) r ⌝ }
 {
     let count = task.count;
     let mut v = from;

@@ -1,13 +1,13 @@
 -- Laws of `sameBytes`.
-use Prim.Native.Nat.{ℕ, suc}
+use Prim.Native.Nat.{suc, ℕ}
 use Rattle.text.specs.Bytes.{sameBytes}
 use borrow.Author.Tests.{eq-eqb, eqb-true}
 use lib.Dec.{eqb}
 use lib.ListN.{length}
-use mathlib.Core.Bool.{Bool, true, false, _&&_, and-false}
+use mathlib.Core.Bool.{Bool, _&&_, and-false, false, true}
 use mathlib.Core.List.{List, [], _∷_}
 use mathlib.Core.Logic.{_↔_}
-use mathlib.Core.Path.{_≡_, refl, ap}
+use mathlib.Core.Path.{_≡_, ap, refl}
 
 -- A byte string is the same as itself.
 same-refl : (a : List ℕ) → sameBytes a a ≡ true

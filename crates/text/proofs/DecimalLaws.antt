@@ -1,13 +1,13 @@
 -- Laws of `decimal` and `written`.
-use Prim.Native.Nat.{ℕ, zero, suc, _+_, _/_, _%_, _^_, _≤_, _<_}
-use Rattle.text.specs.Decimal.{digitsWithin, decimal, written, Stored}
-use borrow.Author.Tests.{lt-ltb, le-ltb, ltb-true, ltb-false}
+use Prim.Native.Nat.{_%_, _+_, _/_, _<_, _^_, _≤_, suc, zero, ℕ}
+use Rattle.text.specs.Decimal.{Stored, decimal, digitsWithin, written}
+use borrow.Author.Tests.{le-ltb, lt-ltb, ltb-false, ltb-true}
 use lib.Dec.{ltb}
-use lib.ListN.{length, take, drop, getD, set, length-append, length-drop, List·getD-append}
-use lib.Seq.{take-at, drop-append-add, drop-drop, length-take-le, set-split}
-use mathlib.Core.Bool.{Bool, true, false, cond}
-use mathlib.Core.List.{List, [], _∷_, _++_, append-assoc}
-use mathlib.Core.Path.{_≡_, refl, ap, sym, _∙_}
+use lib.ListN.{List·getD-append, drop, getD, length, length-append, length-drop, set, take}
+use lib.Seq.{drop-append-add, drop-drop, length-take-le, set-split, take-at}
+use mathlib.Core.Bool.{Bool, cond, false, true}
+use mathlib.Core.List.{List, [], _++_, _∷_, append-assoc}
+use mathlib.Core.Path.{_∙_, _≡_, ap, refl, sym}
 use native.Mathlib.Nat.{pow-suc}
 use native.Mathlib.Numerals.{add-one}
 use native.Mathlib.Omega.{arith}

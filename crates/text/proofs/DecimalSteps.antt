@@ -1,8 +1,8 @@
 -- What a call of the printer shows.
-use Prim.Native.Nat.{ℕ, _+_, _/_, _%_, _≤_, _<_}
+use Prim.Native.Nat.{_%_, _+_, _/_, _<_, _≤_, ℕ}
 use Rattle.text.proofs.DecimalLaws.{decimal-digit, decimal-more, stored-append, stored-length, written-one}
-use Rattle.text.specs.Decimal.{decimal, Stored}
-use lib.ListN.{length, set, length-append}
+use Rattle.text.specs.Decimal.{Stored, decimal}
+use lib.ListN.{length, length-append, set}
 use mathlib.Core.List.{List, [], _∷_}
 use mathlib.Core.Path.{_≡_, refl}
 use native.Mathlib.Omega.{arith}

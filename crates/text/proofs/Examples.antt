@@ -2,7 +2,7 @@
 use Rattle.text.specs.Decimal.{decimal, digitsWithin}
 use Rattle.text.specs.Numerals.{digitsFrom, numeralOf}
 use Rattle.text.specs.Split.{splitAt}
-use Rattle.text.specs.declared.numerals.Numeral.the-variants.{Value, Malformed}
+use Rattle.text.specs.declared.numerals.Numeral.the-variants.{Malformed, Value}
 use mathlib.Core.List.{[], _∷_}
 use mathlib.Core.Path.{_≡_, refl}
 

@@ -1,16 +1,16 @@
 -- Laws of `numeralOf`, and of reading what was printed.
-use Prim.Native.Nat.{ℕ, suc, _+_, _*_, _-_, _/_, _%_, _^_, _≤_, _<_}
-use Rattle.text.proofs.DecimalLaws.{decimal-digit, decimal-more, decimal-induction, decimal-length, decimal-below, decimal-lead}
+use Prim.Native.Nat.{_%_, _*_, _+_, _-_, _/_, _<_, _^_, _≤_, suc, ℕ}
+use Rattle.text.proofs.DecimalLaws.{decimal-below, decimal-digit, decimal-induction, decimal-lead, decimal-length, decimal-more}
 use Rattle.text.specs.Decimal.{decimal}
-use Rattle.text.specs.Numerals.{MAX-DIGITS, isDigit, allDigits, valueFrom, leadingZero, digitsFrom, numeralOf}
+use Rattle.text.specs.Numerals.{MAX-DIGITS, allDigits, digitsFrom, isDigit, leadingZero, numeralOf, valueFrom}
 use Rattle.text.specs.Split.{has}
-use Rattle.text.specs.declared.numerals.Numeral.the-variants.{Value, Malformed}
-use borrow.Author.Tests.{lt-ltb, le-leb, leb-true, ltb-true, ltb-false, eqb-true, eq-eqb, ne-eqb}
-use lib.Dec.{eqb, leb, ltb, lit<}
-use lib.ListN.{length, getD}
-use mathlib.Core.Bool.{Bool, true, false, cond, not, _&&_, _||_, and-false, false≢true, true≢false}
-use mathlib.Core.List.{List, [], _∷_, _++_, append-assoc, append-nil}
-use mathlib.Core.Path.{_≡_, refl, ap, sym, _∙_}
+use Rattle.text.specs.declared.numerals.Numeral.the-variants.{Malformed, Value}
+use borrow.Author.Tests.{eq-eqb, eqb-true, le-leb, leb-true, lt-ltb, ltb-false, ltb-true, ne-eqb}
+use lib.Dec.{eqb, leb, lit<, ltb}
+use lib.ListN.{getD, length}
+use mathlib.Core.Bool.{Bool, _&&_, _||_, and-false, cond, false, false≢true, not, true, true≢false}
+use mathlib.Core.List.{List, [], _++_, _∷_, append-assoc, append-nil}
+use mathlib.Core.Path.{_∙_, _≡_, ap, refl, sym}
 use native.Mathlib.Nat.{pow-le-pow-right}
 use native.Mathlib.Omega.{arith}
 

@@ -1,11 +1,11 @@
 -- What a turn of the loop that reads digits shows.
-use Prim.Native.Nat.{ℕ, _+_, _*_, _-_, _^_, _≤_, _<_}
+use Prim.Native.Nat.{_*_, _+_, _-_, _<_, _^_, _≤_, ℕ}
 use Rattle.text.proofs.NumeralLaws.{digit-is}
 use Rattle.text.specs.Numerals.{MAX-DIGITS, digitsFrom}
-use Rattle.text.specs.declared.numerals.Numeral.the-variants.{Value, Malformed}
+use Rattle.text.specs.declared.numerals.Numeral.the-variants.{Malformed, Value}
 use borrow.Author.Tests.{le-leb, lt-leb}
 use lib.Dec.{lit<}
-use lib.ListN.{length, drop, getD, drop-of-length-le}
+use lib.ListN.{drop, drop-of-length-le, getD, length}
 use lib.Seq.{drop-cons}
 use mathlib.Core.List.{List}
 use mathlib.Core.Path.{_≡_, refl}

@@ -1,13 +1,13 @@
 -- Laws of `upTo`, `splitAt` and `join`.
-use Prim.Native.Nat.{ℕ, suc, _+_, _≤_, _<_}
-use Rattle.text.specs.Split.{upTo, onFirst, splitAt, join, has, anyHas}
+use Prim.Native.Nat.{_+_, _<_, _≤_, suc, ℕ}
+use Rattle.text.specs.Split.{anyHas, has, join, onFirst, splitAt, upTo}
 use borrow.Author.Tests.{eq-eqb, eqb-true}
 use lib.Dec.{eqb}
-use lib.ListN.{length, drop, getD, length-drop}
+use lib.ListN.{drop, getD, length, length-drop}
 use lib.Seq.{drop-drop}
-use mathlib.Core.Bool.{Bool, true, false, cond, _||_, false≢true}
-use mathlib.Core.List.{List, [], _∷_, _++_}
-use mathlib.Core.Path.{_≡_, refl, ap, _∙_}
+use mathlib.Core.Bool.{Bool, _||_, cond, false, false≢true, true}
+use mathlib.Core.List.{List, [], _++_, _∷_}
+use mathlib.Core.Path.{_∙_, _≡_, ap, refl}
 use native.Mathlib.Numerals.{add-one}
 use native.Mathlib.Omega.{arith}
 

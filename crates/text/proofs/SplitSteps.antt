@@ -1,13 +1,13 @@
 -- What a turn of the loops that cut bytes into parts shows.
-use Prim.Native.Nat.{ℕ, suc, _+_, _-_, _≤_, _<_}
+use Prim.Native.Nat.{_+_, _-_, _<_, _≤_, suc, ℕ}
 use Rattle.text.proofs.SplitLaws.{splitAt-first, splitAt-last, splitAt-next, splitAt-some, upTo-shorter}
-use Rattle.text.specs.Split.{upTo, onFirst, splitAt, has}
+use Rattle.text.specs.Split.{has, onFirst, splitAt, upTo}
 use borrow.Author.Tests.{eq-eqb, ne-eqb}
-use lib.ListN.{length, take, drop, getD, length-drop, drop-of-length-le}
-use lib.Seq.{drop-cons, take-suc, getD-drop, drop-length, drop-drop}
-use mathlib.Core.Bool.{Bool, true, false}
-use mathlib.Core.List.{List, [], _∷_, _++_, append-assoc, append-nil}
-use mathlib.Core.Path.{_≡_, refl, ap, sym, _∙_}
+use lib.ListN.{drop, drop-of-length-le, getD, length, length-drop, take}
+use lib.Seq.{drop-cons, drop-drop, drop-length, getD-drop, take-suc}
+use mathlib.Core.Bool.{Bool, false, true}
+use mathlib.Core.List.{List, [], _++_, _∷_, append-assoc, append-nil}
+use mathlib.Core.Path.{_∙_, _≡_, ap, refl, sym}
 use native.Mathlib.Numerals.{add-one}
 use native.Mathlib.Omega.{arith}
 

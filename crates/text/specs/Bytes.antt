@@ -1,7 +1,7 @@
 -- Byte strings compared.
 use Prim.Native.Nat.{ℕ}
 use lib.Dec.{eqb}
-use mathlib.Core.Bool.{Bool, true, false, _&&_}
+use mathlib.Core.Bool.{Bool, _&&_, false, true}
 use mathlib.Core.List.{List, [], _∷_}
 
 -- "where op is exactly the bytes `and`, `or` or `xor`": whether two byte strings are the same.

@@ -1,10 +1,10 @@
 -- Decimal numerals read.
-use Prim.Native.Nat.{ℕ, _+_, _*_, _-_}
-use Rattle.text.specs.declared.numerals.Numeral.the-variants.{Value, Malformed}
+use Prim.Native.Nat.{_*_, _+_, _-_, ℕ}
+use Rattle.text.specs.declared.numerals.Numeral.the-variants.{Malformed, Value}
 use Rattle.text.specs.declared.numerals.Numeral.{Numeral}
 use lib.Dec.{eqb, leb, ltb}
-use lib.ListN.{length, getD}
-use mathlib.Core.Bool.{Bool, true, cond, not, _&&_}
+use lib.ListN.{getD, length}
+use mathlib.Core.Bool.{Bool, _&&_, cond, not, true}
 use mathlib.Core.List.{List, [], _∷_}
 
 -- "1 to 6 digits": the most digits of a numeral.

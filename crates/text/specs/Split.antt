@@ -1,8 +1,8 @@
 -- Bytes cut into parts at a separator.
 use Prim.Native.Nat.{ℕ}
 use lib.Dec.{eqb}
-use mathlib.Core.Bool.{Bool, false, cond, _||_}
-use mathlib.Core.List.{List, [], _∷_, _++_}
+use mathlib.Core.Bool.{Bool, _||_, cond, false}
+use mathlib.Core.List.{List, [], _++_, _∷_}
 
 -- The bytes before the first `stop`, all of them where there is none.
 abbrev pub upTo : ℕ → List ℕ → List ℕ

@@ -1,5 +1,5 @@
-ghost use Prim.Native.Nat.{_+_, _≤_, _<_};
-ghost use Rattle.text.specs.Decimal.{decimal, Stored};
+ghost use Prim.Native.Nat.{_+_, _<_, _≤_};
+ghost use Rattle.text.specs.Decimal.{Stored, decimal};
 ghost use lib.ListN.{length};
 ghost use mathlib.Core.Path.{_≡_};
 

@@ -1,5 +1,5 @@
 ghost use Prim.Native.Nat.{_≤_};
-ghost use Rattle.text.specs.Numerals.{MAX-DIGITS, leadingZero, digitsFrom, numeralOf};
+ghost use Rattle.text.specs.Numerals.{MAX-DIGITS, digitsFrom, leadingZero, numeralOf};
 ghost use lib.ListN.{length};
 ghost use mathlib.Core.Path.{_≡_};
 

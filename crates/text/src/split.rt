@@ -1,6 +1,6 @@
-ghost use Prim.Native.Nat.{_≤_, _<_};
-ghost use Rattle.text.specs.Split.{upTo, splitAt};
-ghost use lib.ListN.{length, drop, getD};
+ghost use Prim.Native.Nat.{_<_, _≤_};
+ghost use Rattle.text.specs.Split.{splitAt, upTo};
+ghost use lib.ListN.{drop, getD, length};
 ghost use mathlib.Core.List.{[]};
 ghost use mathlib.Core.Path.{_≡_};
 

@@ -1,7 +1,7 @@
 -- Laws of Booleans that the other laws lean on.
 use mathlib.Core.Bool.{Bool, Bool·beq, _&&_, _||_, cond, false, false≢true, true}
 use mathlib.Core.Logic.{_⊎_, inl, inr}
-use mathlib.Core.Path.{_≡_, refl, sym, _∙_}
+use mathlib.Core.Path.{_∙_, _≡_, refl, sym}
 
 -- A Boolean is true or false.
 pub bool-cases : (b : Bool) → (b ≡ true) ⊎ (b ≡ false)

@@ -6,7 +6,7 @@ use lib.ListN.{length}
 use mathlib.Core.Bool.{Bool, _||_, cond, false, not, or-assoc, true}
 use mathlib.Core.List.{List, [], _++_, _∷_}
 use mathlib.Core.Logic.{⊎-elim}
-use mathlib.Core.Path.{_≡_, ap, ap₂, refl, sym, _∙_}
+use mathlib.Core.Path.{_∙_, _≡_, ap, ap₂, refl, sym}
 use native.Mathlib.Omega.{arith}
 
 -- The members of two lists after one another that pass a test.

@@ -8,7 +8,7 @@ use lib.ListN.{length}
 use mathlib.Core.Bool.{Bool, Bool·not-not, false, not, true}
 use mathlib.Core.List.{[], _∷_}
 use mathlib.Core.Logic.{_⊎_, inl, inr, ⊎-elim}
-use mathlib.Core.Path.{_≡_, ap, ap₂, refl, sym, _∙_}
+use mathlib.Core.Path.{_∙_, _≡_, ap, ap₂, refl, sym}
 
 -- Two functions of m inputs that agree on every setting are equal.
 pub agree-equal : {m : ℕ} {f g : Truth} → Perfect m f → Perfect m g

@@ -11,7 +11,7 @@ use lib.ListN.{length}
 use mathlib.Core.Bool.{Bool, _&&_, _||_, cond, false, not, or-self, true}
 use mathlib.Core.List.{[], _++_, _∷_}
 use mathlib.Core.Logic.{⊎-elim}
-use mathlib.Core.Path.{_≡_, ap, ap₂, refl, sym, _∙_}
+use mathlib.Core.Path.{_∙_, _≡_, ap, ap₂, refl, sym}
 use native.Mathlib.Omega.{arith}
 
 -- Being equal or inverse is a sameness.

@@ -9,7 +9,7 @@ use lib.ListN.{length, length-append}
 use lib.Pow.{pow-pos}
 use mathlib.Core.Bool.{Bool, _&&_, _||_, and-self, cond, false, not, or-comm, true}
 use mathlib.Core.List.{[], _++_, _∷_}
-use mathlib.Core.Path.{_≡_, ap, ap₂, refl, sym, _∙_}
+use mathlib.Core.Path.{_∙_, _≡_, ap, ap₂, refl, sym}
 use native.Mathlib.Omega.{arith}
 
 -- A product on a pair that ends takes one step.

@@ -5,7 +5,7 @@ use Rattle.truth.specs.Truth.{Perfect, Setting, Truth, conj, constantly,
 use lib.ListN.{getD, length}
 use mathlib.Core.Bool.{Bool, Bool·not-not, _&&_, _||_, cond, false, not, true, xor}
 use mathlib.Core.List.{[], _∷_}
-use mathlib.Core.Path.{_≡_, ap₂, refl, _∙_}
+use mathlib.Core.Path.{_∙_, _≡_, ap₂, refl}
 use native.Mathlib.Omega.{arith}
 
 -- An inverted function has the inverted value.

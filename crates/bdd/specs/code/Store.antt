@@ -25,7 +25,7 @@ pub record Chains (rows : List ℕ) (limit n : ℕ) : Type 0 where
   pub next-highest : (i : ℕ) → 1 ≤ i → i ≤ n → (j : ℕ) → nextAt rows i < j → j < i → bucketOf rows limit j ≡ bucketOf rows limit i → ⊥
 
 -- The slice has room for the limit's rows, of which n are used: "4 words a row of the limit".
-pub record Room (rows : List ℕ) (limit n : ℕ) : Type 0 where
+pub record StoreRoom (rows : List ℕ) (limit n : ℕ) : Type 0 where
   pub used : n ≤ limit
   pub small : limit ≤ LIMIT
   pub long : limit * 4 ≤ length rows
@@ -35,7 +35,7 @@ pub record Store (rows : List ℕ) (limit n : ℕ) : Type 0 where
   pub canonical : Canonical rows n
   pub chains : Chains rows limit n
   pub unmarked : (i : ℕ) → i ≤ n → markAt rows i ≡ 0
-  pub room : Room rows limit n
+  pub room : StoreRoom rows limit n
 
 -- Rows 0 to n have the same levels and edges.
 pub record Agree (s t : List ℕ) (n : ℕ) : Type 0 where

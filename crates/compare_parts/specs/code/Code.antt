@@ -1,6 +1,6 @@
 -- What the arguments of compare and what it leaves stand for.
 use Prim.Native.Nat.{ℕ}
-use Rattle.compare_model.specs.Compare.{Given, Left, Room}
+use Rattle.compare_model.specs.Compare.{CompareRoom, Given, Left}
 use Rattle.compare_model.specs.Said.{Said}
 use Rattle.compare_model.specs.declared.Limits.{Limits as Asked}
 use Rattle.compare_parts.specs.declared.refusal.Lengths.{Lengths}
@@ -14,11 +14,11 @@ abbrev pub limitsOf : Asked → Limits
 limitsOf l = record { size = l .size; rows = l .rows; steps = l .steps }
 
 -- The lengths of the working slices.
-abbrev pub roomOf : Lengths → Room
+abbrev pub roomOf : Lengths → CompareRoom
 roomOf l = record { pairs = l .pairs; look = l .look; diagrams = l .diagrams; stages = l .stages; rows = l .rows }
 
 -- The same, by the lists that the slices hold.
-abbrev pub roomOfLists : List ℕ → List ℕ → List ℕ → List ℕ → List ℕ → Room
+abbrev pub roomOfLists : List ℕ → List ℕ → List ℕ → List ℕ → List ℕ → CompareRoom
 roomOfLists pairs look diagrams stages rows =
     record { pairs = length pairs; look = length look; diagrams = length diagrams; stages = length stages; rows = length rows }
 

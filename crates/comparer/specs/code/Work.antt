@@ -24,7 +24,7 @@ pub record Posed (table : List ℕ) (output : ℕ) (limits : Asked) (t : Task) :
   pub steps : t .steps ≡ limits .steps
 
 -- The sweep has ended: the model's answer, by what the slices hold then.
-pub record Ran (g : Given) (pairs rows marks : List ℕ) (e : Ended) : Type 0 where
+pub record SweepRan (g : Given) (pairs rows marks : List ℕ) (e : Ended) : Type 0 where
   pub verdict : answerTo g .verdict ≡ verdictOf rows (inputsOf (g .table)) (e .end)
   pub rows-left : answerTo g .left .rows ≡ take (2 * verticesOf (g .table)) pairs
   pub long : 2 * verticesOf (g .table) ≤ length pairs

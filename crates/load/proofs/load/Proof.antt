@@ -5,7 +5,7 @@ use Rattle.load.proofs.Deciding.{goes-on, goes-table, refusal-result}
 use Rattle.load.proofs.load.Statement.{statement}
 use Rattle.load.proofs.load.Tie as tie
 use borrow.Author.Needs.{needs}
-use mathlib.Core.Path.{ap, refl, sym, _∙_}
+use mathlib.Core.Path.{_∙_, ap, refl, sym}
 
 decide-requires : tie.Need-decide-requires
 decide-requires c κs = search needs

@@ -1,6 +1,6 @@
 -- What load decides before it writes: a refusal, or that two files with some counts are loaded.
 use Prim.Native.Nat.{_+_, ℕ}
-use Rattle.load_model.specs.Load.{Room, maxTable, shortSlice?}
+use Rattle.load_model.specs.Load.{LoadRoom, maxTable, shortSlice?}
 use Rattle.load.specs.declared.decision.Decision.the-variants.{Go, Refused}
 use Rattle.load.specs.declared.decision.Decision.{Decision}
 use Rattle.netlist.specs.Check.{Answer, accepted, checkFile, refused}
@@ -18,7 +18,7 @@ use mathlib.Core.Bool.{_||_, not}
 use mathlib.Core.List.{List, [], _∷_}
 
 -- "then 7, 8, 9, 14", by the counts of two accepted files.
-unfoldable pub pairDecision : Summary → Summary → Room → Decision
+unfoldable pub pairDecision : Summary → Summary → LoadRoom → Decision
 pairDecision s t room =
     firstRefusal (Go s t)
     (record { answer = Refused 7 2 1; applies = not (eqb (s .inputs) (t .inputs)) || not (eqb (s .outputs) (t .outputs)) }
@@ -28,7 +28,7 @@ pairDecision s t room =
     ∷ [])
 
 -- "then 2 to 6 line by line, first file first"
-unfoldable pub readDecision : Checked → Checked → Room → Decision
+unfoldable pub readDecision : Checked → Checked → LoadRoom → Decision
 readDecision (checked.Refused k n) c room = Refused k 1 n
 readDecision (Accepted s) (checked.Refused k n) room = Refused k 2 n
 readDecision (Accepted s) (Accepted t) room = pairDecision s t room
@@ -43,7 +43,7 @@ abbrev pub checkedFile : List ℕ → Checked
 checkedFile bytes = checkedAs (length (upTo 10 bytes) + 1) (checkFile bytes)
 
 -- "Load tests 1 for both files"
-unfoldable pub decision : List ℕ → List ℕ → Room → Decision
+unfoldable pub decision : List ℕ → List ℕ → LoadRoom → Decision
 decision left right room =
     firstRefusal (readDecision (checkedFile left) (checkedFile right) room)
     (record { answer = Refused 1 1 0; applies = ltb maxBytes (length left) }

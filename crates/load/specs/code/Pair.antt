@@ -3,7 +3,7 @@ use Prim.Native.Nat.{_*_, _+_, _-_, _≤_, ℕ}
 use Rattle.load_model.specs.Build.{PairBuilt, buildPair}
 use Rattle.load_model.specs.Load.{maxVertices}
 use Rattle.load.specs.code.File.{netlistOf}
-use Rattle.netlist.specs.code.Accepted.{Holds}
+use Rattle.netlist.specs.code.Accepted.{HoldsNetlist}
 use Rattle.netlist.specs.declared.check.Summary.{Summary}
 use Rattle.table.specs.Limits.{maxAnds, maxOutputs}
 use lib.ListN.{drop, take}
@@ -27,8 +27,8 @@ pub record TableRoom (table pairs outputs first vertices count : ℕ) : Type 0 w
 
 -- Two files with some counts are loaded: they hold netlists, with equally many inputs and outputs, and few enough ANDs.
 pub record Agreed (one two : List ℕ) (s t : Summary) : Type 0 where
-  pub left : Holds one s (netlistOf one s)
-  pub right : Holds two t (netlistOf two t)
+  pub left : HoldsNetlist one s (netlistOf one s)
+  pub right : HoldsNetlist two t (netlistOf two t)
   pub inputs : s .inputs ≡ t .inputs
   pub outputs : s .outputs ≡ t .outputs
   pub ands : s .ands + t .ands ≤ maxAnds

@@ -4,7 +4,7 @@ use Rattle.load_graph.proofs.Asking.{and-folded, and-found, and-made, f
 use Rattle.load_graph.proofs.ask_and.Statement.{statement}
 use Rattle.load_graph.proofs.ask_and.Tie as tie
 use borrow.Author.Needs.{needs}
-use mathlib.Core.Path.{sym, _∙_}
+use mathlib.Core.Path.{_∙_, sym}
 use native.Mathlib.Omega.{arith}
 
 fold-pair-requires : tie.Need-fold-pair-requires

@@ -1,7 +1,7 @@
 -- What holds of the graph while files of n inputs are loaded.
 use Prim.Native.Nat.{_*_, _+_, _<_, _≤_, ℕ}
 use Rattle.aig.specs.Fold.{Unfolded}
-use Rattle.aig.specs.Lookup.{Holds, Unused, firstWord, secondWord}
+use Rattle.aig.specs.Lookup.{HoldsRow, Unused, firstWord, secondWord}
 use Rattle.load_model.specs.Build.{Build}
 use lib.ListN.{length}
 use mathlib.Core.List.{List}
@@ -18,5 +18,5 @@ pub record Good (n : ℕ) (b : Build) : Type 0 where
   pub sized : length (b .words) ≡ 2 * b .count
   pub tally : b .asked + (1 + n) ≡ b .folded + b .found + b .count
   pub first : 1 + n ≤ b .count
-  pub own : (v : ℕ) → v < 1 + n → Holds (b .words) v (2 * v) (2 * v)
+  pub own : (v : ℕ) → v < 1 + n → HoldsRow (b .words) v (2 * v) (2 * v)
   pub rows : (v : ℕ) → n < v → v < b .count → Row (b .words) v

@@ -20,7 +20,7 @@ summaryOf start d =
     record { inputs = d .inputs; gates = length (d .gates); outputs = length (d .outputs); ands = andCount (d .gates); start = start }
 
 -- A file with a summary holds a netlist: it is read as that netlist, is its bytes, keeps the limits, and its gate lines start after line 1.
-pub record Holds (bytes : List ℕ) (s : Summary) (d : Netlist) : Type 0 where
+pub record HoldsNetlist (bytes : List ℕ) (s : Summary) (d : Netlist) : Type 0 where
   pub reads : readNetlist bytes ≡ read d
   pub file : bytes ≡ bytesOf d
   pub within : Within d

@@ -20,5 +20,5 @@ pub record Proper (rowLimit stepLimit : ℕ) (b : Book) : Type 0 where
   pub taken : b .steps ≤ stepLimit
 
 -- The rows are the parts of these functions.
-pub record Holds (b : Book) (fs : List Truth) : Type 0 where
+pub record HoldsParts (b : Book) (fs : List Truth) : Type 0 where
   pub members : (t : Truth) → among alike? t (b .store) ≡ among alike? t (allParts fs)

@@ -1,6 +1,6 @@
 -- The slices that are too short, then the load, decide; no loop.
 -- Each return is a case of the report.
-use Rattle.compare_model.specs.Compare.{Room}
+use Rattle.compare_model.specs.Compare.{CompareRoom}
 use Rattle.load.specs.Lent.{working}
 use Rattle.load_model.specs.Load.{answerOf}
 use Rattle.report_model.proofs.ReportLaws.{long-enough, report-short, works-accepted}
@@ -120,7 +120,7 @@ returns-3 c =
     let bounds = long-enough (length (a .out .now)) (length (a .rows .now)) (length (a .marks .now)) (length (a .setting .now)) long in
     let table = c .before .before .before .before .before .before .before .before .before .before .before .before .before .before .before .before .before .before .report-table in (
       accepted-report (a .left .now) (a .right .now) l long (answerOf (load .result)) (load .ensures .0) (load .last .1 .1 .0) (load .ensures .1 .0) _ (ap answerOf told) _ _ _ (table .result)
-          (ap (λ (r : Room). record { table = load .last .1 .1 .0; output = 0; limits = programLimits; room = r; marks = a .marks .now; setting = a .setting .now })
+          (ap (λ (r : CompareRoom). record { table = load .last .1 .1 .0; output = 0; limits = programLimits; room = r; marks = a .marks .now; setting = a .setting .now })
           (same-room (c .before .before .before .before .before .before .before .before .before .before .before .before .before .before .before .before .before .before .before .before .before .before .before .before .before .before .before .before .before .before .before .before .before .before .before .before .before .pairs .given) (c .before .before .before .before .before .before .before .before .before .before .before .before .before .before .before .before .before .before .before .before .before .before .before .before .before .before .before .before .before .before .before .before .before .before .before .look .given) (c .before .before .before .before .before .before .before .before .before .before .before .before .before .before .before .before .before .before .before .before .before .before .before .before .before .before .before .before .before .before .before .before .before .diagrams .given) (c .before .before .before .before .before .before .before .before .before .before .before .before .before .before .before .before .before .before .before .before .before .before .before .before .before .before .before .before .before .before .before .stages .given) refl))
           (table .ensures .0 .stored) (table .ensures .1),
       (front-stored (bounds .out) (c .before .before .before .before .before .before .before .before .before .before .before .before .before .before .before .before .before .out2 .given) (table .ensures .0), λ h. clash (works-accepted (a .left .now) (a .right .now) l long _ (sym (load .ensures .0) ∙ ap answerOf told)) h),

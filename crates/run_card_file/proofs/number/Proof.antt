@@ -4,14 +4,14 @@ use Prim.Native.Nat.{_-_, _≤_}
 use Rattle.run_card_file.proofs.NumberLaws.{number-ended, number-next, number-started, numberFrom}
 use Rattle.run_card_file.proofs.number.Statement.{statement}
 use Rattle.run_card_file.proofs.number.Tie as tie
-use Rattle.run_card_file.specs.CardFile.{HIGHEST, numberOf}
+use Rattle.run_card_file.specs.CardFile.{HIGHEST, valueOf}
 use borrow.Author.Needs.{needs}
 use lib.ListN.{drop, length}
 use mathlib.Core.Path.{_∙_, _≡_, sym}
 use native.Mathlib.Omega.{arith}
 
 abbrev Inv-loop : tie.InvT-loop
-Inv-loop digits value₀ i₀ value i = (value ≤ HIGHEST) × (numberFrom value (drop i digits) ≡ numberOf digits)
+Inv-loop digits value₀ i₀ value i = (value ≤ HIGHEST) × (numberFrom value (drop i digits) ≡ valueOf digits)
 
 abbrev μ-loop : tie.MeasureT-loop
 μ-loop digits value₀ i₀ value i = length digits - i

@@ -3,8 +3,8 @@
 use Rattle.run_sweep.proofs.AskedLaws.{asked, closed}
 use Rattle.run_sweep.proofs.show_sweep.Statement.{statement}
 use Rattle.run_sweep.proofs.show_sweep.Tie as tie
-use Rattle.sweep_parts.specs.code.Meet.{Board, board}
-use Rattle.sweep_parts.specs.code.Sheets.{sheets}
+use Rattle.sweep_parts.specs.code.Meet.{Workspace, workspace}
+use Rattle.sweep_parts.specs.code.Arrays.{arrays}
 use borrow.Author.Needs.{needs}
 use native.Mathlib.Omega.{arith}
 
@@ -29,7 +29,7 @@ show-reply-requires c κs =
     let start = c .before .before .before .before .before .before .before .before .before .before .before in
     let a = start .args in
     let l = swept .last in
-    let after : Board = board (l .0) (sheets (l .1 .1 .0) (l .1 .1 .1 .0) (l .1 .1 .1 .1 .0) (l .1 .1 .1 .1 .1 .0)) in
+    let after : Workspace = workspace (l .0) (arrays (l .1 .1 .0) (l .1 .1 .1 .0) (l .1 .1 .1 .1 .0) (l .1 .1 .1 .1 .1 .0)) in
     let e =
     closed (a .task) (a .pairs .now) (start .pre) (a .places .now) (a .diagrams .now) (a .stages .now) (a .rows .now) (marks .result) after
     (swept .result) (swept .ensures)

@@ -1,8 +1,8 @@
 -- What is tested of a card before its graph is swept.
 use Prim.Native.Nat.{_*_, _+_, _<_, _≤_, ℕ}
-use Rattle.aig.specs.Lookup.{Holds, firstWord, secondWord}
+use Rattle.aig.specs.Lookup.{HoldsRow, firstWord, secondWord}
 use Rattle.bdd.specs.code.Rows.{LIMIT}
-use Rattle.run_card_file.specs.CardFile.{numberOf, partOf}
+use Rattle.run_card_file.specs.CardFile.{partOf, valueOf}
 use Rattle.sweep_model.specs.Fit.{Downward}
 use Rattle.sweep_parts.specs.declared.task.Task.{Task}
 use mathlib.Core.List.{List}
@@ -10,7 +10,7 @@ use mathlib.Core.Path.{_≡_}
 
 -- The number in field k of a card.
 abbrev pub numberIn : List ℕ → ℕ → ℕ
-numberIn card k = numberOf (partOf 124 card k)
+numberIn card k = valueOf (partOf 124 card k)
 
 -- What a card asks: its fields 1 to 8.
 abbrev pub taskIn : List ℕ → Task
@@ -35,7 +35,7 @@ INPUTS = 64
 
 -- A first vertex holds its own literal twice, another refers below itself.
 pub record InPlace (first v : ℕ) (pairs : List ℕ) : Type 0 where
-  pub own : v < first → Holds pairs v (2 * v) (2 * v)
+  pub own : v < first → HoldsRow pairs v (2 * v) (2 * v)
   pub first-below : first ≤ v → firstWord pairs v < 2 * v
   pub second-below : first ≤ v → secondWord pairs v < 2 * v
 

@@ -1,7 +1,7 @@
 -- The turns, and at rest the cause; no loop.
 -- One law for each way that the turns come out.
-use Rattle.sweep_parts.specs.code.Meet.{board}
-use Rattle.sweep_parts.specs.code.Sheets.{sheets}
+use Rattle.sweep_parts.specs.code.Meet.{workspace}
+use Rattle.sweep_parts.specs.code.Arrays.{arrays}
 use Rattle.sweep.proofs.SweepModel.{rest-answers, turn-answers}
 use Rattle.sweep.proofs.finish.Statement.{statement}
 use Rattle.sweep.proofs.finish.Tie as tie
@@ -42,8 +42,8 @@ returns c =
     let start = c .before .before .before .before .before .before .before .before .before .before .before .before .before .before .before .before .before .before .before .before .before .before .before .before .before .before .before .before .before .before in
     let turned = c .before .before .before .before .before .before .before .before .before .before .before .before .before .before .before .before .before .go in
     rest-answers (start .args .task) (start .args .used) (start .args .steps)
-    (board (start .args .pairs .now) (sheets (start .args .diagrams .now) (start .args .stages .now) (start .args .rows .now) (start .args .marks .now)))
-    (board (turned .last .0) (sheets (turned .last .1 .1 .0) (turned .last .1 .1 .1 .0) (turned .last .1 .1 .1 .1 .0) (turned .last .1 .1 .1 .1 .1 .0)))
+    (workspace (start .args .pairs .now) (arrays (start .args .diagrams .now) (start .args .stages .now) (start .args .rows .now) (start .args .marks .now)))
+    (workspace (turned .last .0) (arrays (turned .last .1 .1 .0) (turned .last .1 .1 .1 .0) (turned .last .1 .1 .1 .1 .0) (turned .last .1 .1 .1 .1 .1 .0)))
     (turned .ensures) (c .before .before .before .going .given .1) (c .cause .ensures)
 
 same-length-7 : tie.Need-same-length-7
@@ -69,8 +69,8 @@ returns-2 c =
     let start = c .before .before .before .before .before .before .before .before .before .before .before .before .before .before .before .before .before .before .before .before .before .before .before .before .before .before .before .before in
     let turned = c .before .before .before .before .before .before .before .before .before .before .before .before .before .before .before .go in
     turn-answers (start .args .task) (start .args .used) (start .args .steps)
-    (board (start .args .pairs .now) (sheets (start .args .diagrams .now) (start .args .stages .now) (start .args .rows .now) (start .args .marks .now)))
-    (board (turned .last .0) (sheets (turned .last .1 .1 .0) (turned .last .1 .1 .1 .0) (turned .last .1 .1 .1 .1 .0) (turned .last .1 .1 .1 .1 .1 .0)))
+    (workspace (start .args .pairs .now) (arrays (start .args .diagrams .now) (start .args .stages .now) (start .args .rows .now) (start .args .marks .now)))
+    (workspace (turned .last .0) (arrays (turned .last .1 .1 .0) (turned .last .1 .1 .1 .0) (turned .last .1 .1 .1 .1 .0) (turned .last .1 .1 .1 .1 .1 .0)))
     (turned .ensures) (c .before .going2 .given .1)
 
 pub finish-spec : {M : Type 1} → statement M

@@ -1,7 +1,7 @@
 -- The start, and what follows it; no loop.
 -- One law for each way that the start comes out.
-use Rattle.sweep_parts.specs.code.Meet.{board}
-use Rattle.sweep_parts.specs.code.Sheets.{sheets}
+use Rattle.sweep_parts.specs.code.Meet.{workspace}
+use Rattle.sweep_parts.specs.code.Arrays.{arrays}
 use Rattle.sweep.proofs.SweepModel.{start-answers, start-rests, sweep-goes-on}
 use Rattle.sweep.proofs.sweep.Statement.{statement}
 use Rattle.sweep.proofs.sweep.Tie as tie
@@ -19,8 +19,8 @@ finish-requires c κs =
     let start = c .before .before .before .before .before .before .before .before .before .before .before .before .before .before .before .before .before .before .before .before .before .before .before .before .before .before .before .before .before .before .before .before .before .before in
     let begun = c .before .before .before .before .before .before .before .before .before .before .before .before .before .before .before .before .before .before .before .before .before .start in (
       start-rests (start .args .task)
-          (board (start .args .pairs .now) (sheets (start .args .diagrams .now) (start .args .stages .now) (start .args .rows .now) (start .args .marks .now)))
-          (board (begun .last .0) (sheets (begun .last .1 .1 .0) (begun .last .1 .1 .1 .0) (begun .last .1 .1 .1 .1 .0) (begun .last .1 .1 .1 .1 .1 .0)))
+          (workspace (start .args .pairs .now) (arrays (start .args .diagrams .now) (start .args .stages .now) (start .args .rows .now) (start .args .marks .now)))
+          (workspace (begun .last .0) (arrays (begun .last .1 .1 .0) (begun .last .1 .1 .1 .0) (begun .last .1 .1 .1 .1 .0) (begun .last .1 .1 .1 .1 .1 .0)))
           (begun .ensures) (c .before .before .before .before .before .before .before .started .given .1) (start .pre),
       omega (arith, start .pre .places-long),
     )
@@ -52,10 +52,10 @@ returns c =
     let begun = c .before .before .before .before .before .before .before .before .before .before .before .before .before .before .before .before .before .before .before .before .before .before .before .before .before .before .before .before .before .before .before .before .before .before .start in
     let finished = c .before .before .before .before .before .before .before .before .before .before .before .before .finish in
     sweep-goes-on (start .args .task)
-    (board (start .args .pairs .now) (sheets (start .args .diagrams .now) (start .args .stages .now) (start .args .rows .now) (start .args .marks .now)))
-    (board (begun .last .0) (sheets (begun .last .1 .1 .0) (begun .last .1 .1 .1 .0) (begun .last .1 .1 .1 .1 .0) (begun .last .1 .1 .1 .1 .1 .0)))
+    (workspace (start .args .pairs .now) (arrays (start .args .diagrams .now) (start .args .stages .now) (start .args .rows .now) (start .args .marks .now)))
+    (workspace (begun .last .0) (arrays (begun .last .1 .1 .0) (begun .last .1 .1 .1 .0) (begun .last .1 .1 .1 .1 .0) (begun .last .1 .1 .1 .1 .1 .0)))
     (begun .ensures) (c .before .before .before .before .before .before .before .before .before .before .before .before .before .before .before .before .before .before .before .before .started .given .1)
-    (board (finished .last .0) (sheets (finished .last .1 .1 .0) (finished .last .1 .1 .1 .0) (finished .last .1 .1 .1 .1 .0) (finished .last .1 .1 .1 .1 .1 .0)))
+    (workspace (finished .last .0) (arrays (finished .last .1 .1 .0) (finished .last .1 .1 .1 .0) (finished .last .1 .1 .1 .1 .0) (finished .last .1 .1 .1 .1 .1 .0)))
     (finished .ensures)
 
 same-length-7 : tie.Need-same-length-7
@@ -81,8 +81,8 @@ returns-2 c =
     let start = c .before .before .before .before .before .before .before .before .before .before .before .before .before .before .before .before .before .before .before .before .before .before .before .before .before .before .before .before in
     let begun = c .before .before .before .before .before .before .before .before .before .before .before .before .before .before .before .start in
     start-answers (start .args .task)
-    (board (start .args .pairs .now) (sheets (start .args .diagrams .now) (start .args .stages .now) (start .args .rows .now) (start .args .marks .now)))
-    (board (begun .last .0) (sheets (begun .last .1 .1 .0) (begun .last .1 .1 .1 .0) (begun .last .1 .1 .1 .1 .0) (begun .last .1 .1 .1 .1 .1 .0)))
+    (workspace (start .args .pairs .now) (arrays (start .args .diagrams .now) (start .args .stages .now) (start .args .rows .now) (start .args .marks .now)))
+    (workspace (begun .last .0) (arrays (begun .last .1 .1 .0) (begun .last .1 .1 .1 .0) (begun .last .1 .1 .1 .1 .0) (begun .last .1 .1 .1 .1 .1 .0)))
     (begun .ensures) (c .before .started2 .given .1)
 
 pub sweep-spec : {M : Type 1} → statement M

@@ -1,5 +1,5 @@
 -- The words that a sweep begins with.
-use Prim.Native.Nat.{ℕ, _*_}
+use Prim.Native.Nat.{_*_, ℕ}
 use Rattle.aig.specs.Lookup.{cleared}
 use Rattle.sweep_graph.specs.code.Stages.{stageWord, withStage}
 use Rattle.sweep_model.specs.State.{opened}

@@ -1,5 +1,5 @@
 -- What the code asks of the rows of the working graph.
-use Prim.Native.Nat.{ℕ, _*_, _+_, _<_, _^_, _≤_}
+use Prim.Native.Nat.{_*_, _+_, _<_, _^_, _≤_, ℕ}
 use Rattle.aig.specs.Lookup.{Indexed, firstWord, secondWord}
 use Rattle.sweep_model.specs.Fit.{Downward}
 use lib.ListN.{length}

@@ -1,11 +1,11 @@
 -- "4. The waiting vertex of least size opens, lowest number on a tie.": by the words of stages and sizes.
-use Prim.Native.Nat.{ℕ, _*_, _+_, _<_, suc, zero}
+use Prim.Native.Nat.{_*_, _+_, _<_, suc, zero, ℕ}
 use Rattle.aig.specs.Lookup.{firstWord, secondWord}
 use Rattle.sweep_graph.specs.code.Stages.{wordStage}
 use Rattle.sweep_graph.specs.declared.pick.Picked.the-variants.{At, None}
 use Rattle.sweep_graph.specs.declared.pick.Picked.{Picked}
 use Rattle.sweep_model.specs.State.{waits?}
-use Rattle.sweep_model.specs.Sweep.{Twin, at, none}
+use Rattle.sweep_model.specs.Sweep.{Candidate, at, none}
 use lib.Dec.{leb}
 use lib.ListN.{length}
 use mathlib.Core.Bool.{cond}
@@ -31,6 +31,6 @@ abbrev pub Within : List ℕ → Picked → Type 0
 Within diagrams later = (w : ℕ) → later ≡ At w → 2 * w + 1 < length diagrams
 
 -- The model's answer that the code's stands for.
-abbrev pub twinOf : Picked → Twin
+abbrev pub twinOf : Picked → Candidate
 twinOf (At v) = at v
 twinOf None = none

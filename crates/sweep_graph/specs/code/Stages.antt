@@ -1,5 +1,5 @@
 -- Stages as words.
-use Prim.Native.Nat.{ℕ, _*_, suc, zero}
+use Prim.Native.Nat.{_*_, suc, zero, ℕ}
 use Rattle.aig.specs.Lookup.{firstWord}
 use Rattle.sweep_model.specs.State.{Stage, again, bare, dropped, gone, opened, waiting}
 use lib.ListN.{set}

@@ -1,5 +1,5 @@
 -- "each vertex that others were merged into, if either had a diagram, takes it and waits again": by words. The model has the stages alone.
-use Prim.Native.Nat.{ℕ, _*_, _+_, _/_, _<_, _≤_, suc, zero}
+use Prim.Native.Nat.{_*_, _+_, _/_, _<_, _≤_, suc, zero, ℕ}
 use Rattle.aig.specs.Literal.{vertexOf}
 use Rattle.aig.specs.Lookup.{firstWord, secondWord, withRow}
 use Rattle.bdd.specs.Diagram.{edge}
@@ -65,7 +65,7 @@ pub record Handing (v x : ℕ) (h : Held) : Type 0 where
   pub few : v < RADIX
 
 -- The slices hold the words of count vertices and the rows of their diagrams, and a row can name each of them as its owner.
-pub record Room (count : ℕ) (h : Held) : Type 0 where
+pub record TakesRoom (count : ℕ) (h : Held) : Type 0 where
   pub stages-long : 2 * count ≤ length (h .stages)
   pub diagrams-long : 2 * count ≤ length (h .diagrams)
   pub rows-within : (v : ℕ) → v < count → firstWord (h .diagrams) v / 2 * 4 ≤ length (h .rows)

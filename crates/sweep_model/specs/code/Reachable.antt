@@ -1,7 +1,7 @@
 -- What holds of every state that the sweep reaches: marks, rows and steps agree, the rows of vertices with diagrams are stored, no two such
 -- vertices are alike. No sentence of the paper is stated by this: it serves the proofs of laws and of code.
 use Prim.Native.Nat.{_<_, _≤_, ℕ}
-use Rattle.product_model.specs.code.Books.{Holds, Proper, Stored}
+use Rattle.product_model.specs.code.Books.{HoldsParts, Proper, Stored}
 use Rattle.product_model.specs.Run.{Book}
 use Rattle.sweep_model.specs.Claims.{is, marked, stepsMarked}
 use Rattle.sweep_model.specs.Normalise.{wasMerged?}
@@ -28,7 +28,7 @@ pub record MarkFits (p : Problem) (entry : List ℕ) (v mark : ℕ) : Type 0 whe
 -- The book's rows are the parts of the functions marked 1, its steps those of the ANDs marked 1 or 2, both within the limits; no mark is 3.
 pub record Accounted (p : Problem) (entry marks : List ℕ) (book : Book) : Type 0 where
   pub proper : Proper (p .limits .rows) (p .limits .steps) book
-  pub holds : Holds book (marked (is 1) marks (p .functions))
+  pub holds : HoldsParts book (marked (is 1) marks (p .functions))
   pub steps : book .steps ≡ stepsMarked p entry marks
   pub fits : (v : ℕ) → MarkFits p entry v (getD marks v 0)
   pub unnamed : (v : ℕ) → getD marks v 0 ≢ 3

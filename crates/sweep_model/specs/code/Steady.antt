@@ -3,7 +3,7 @@
 use Prim.Native.Nat.{_<_, _≤_, ℕ}
 use Rattle.aig.specs.Fold.{Unfolded}
 use Rattle.aig.specs.Literal.{negate, vertexOf}
-use Rattle.aig.specs.Lookup.{Holds, firstWord, secondWord}
+use Rattle.aig.specs.Lookup.{HoldsRow, firstWord, secondWord}
 use Rattle.aig.specs.Pairs.{SamePair}
 use Rattle.product_model.specs.Run.{Outcome, run}
 use Rattle.sweep_model.specs.Fit.{Sound, vertexCount}
@@ -22,7 +22,7 @@ pub record Tidy (first k : ℕ) (rows : List ℕ) : Type 0 where
   pub first-stays : (v : ℕ) → first ≤ v → v < k → wasMerged? first rows (vertexOf (firstWord rows v)) ≡ false
   pub second-stays : (v : ℕ) → first ≤ v → v < k → wasMerged? first rows (vertexOf (secondWord rows v)) ≡ false
   pub unfolded : (v : ℕ) → first ≤ v → v < k → merged? rows v ≡ false → Unfolded (firstWord rows v) (secondWord rows v)
-  pub once : (u v : ℕ) → first ≤ u → u < v → v < k → merged? rows u ≡ false → Holds rows v (firstWord rows u) (secondWord rows u) → ⊥
+  pub once : (u v : ℕ) → first ≤ u → u < v → v < k → merged? rows u ≡ false → HoldsRow rows v (firstWord rows u) (secondWord rows u) → ⊥
 
 -- What became of the rows: merged vertices stay merged, into what their literals became; the operands of the others are what theirs became, up to order.
 pub record Moves (first count : ℕ) (rows other : List ℕ) : Type 0 where

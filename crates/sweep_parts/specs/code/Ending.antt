@@ -5,7 +5,7 @@ use Rattle.bdd.specs.Diagram.{Reference, denote}
 use Rattle.bdd.specs.code.Store.{Store}
 use Rattle.sweep_graph.specs.code.Takes.{hasWord}
 use Rattle.sweep_model.specs.Sweep.{Progress, Verdict, different, ends, equal, undecided}
-use Rattle.sweep_parts.specs.code.Meet.{Board}
+use Rattle.sweep_parts.specs.code.Meet.{Workspace}
 use Rattle.sweep_parts.specs.code.Represents.{Drawing}
 use Rattle.sweep_parts.specs.code.Settle.{stateOn}
 use Rattle.sweep_parts.specs.declared.end.End.the-variants.{Differ, Equal, Inverse, Undecided}
@@ -34,14 +34,14 @@ Refers rows used inputs (Undecided c) = Unit {0}
 
 -- What the words are where a sweep has ended: a store of the rows in use, the diagrams of the vertices that have one, the references of the
 -- end, and steps within the limit.
-pub record Closed (t : Task) (functions : List Truth) (b : Board) (used steps : ℕ) (e : End) : Type 0 where
-  pub store : Store (b .sheets .rows) (t .rows) used
-  pub drawn : (v : ℕ) → v < t .count → hasWord (b .sheets .stages) v ≡ true
-      → Drawing t functions (b .sheets .rows) used v (firstWord (b .sheets .diagrams) v) (secondWord (b .sheets .diagrams) v)
-  pub refers : Refers (b .sheets .rows) used (t .inputs) e
+pub record Closed (t : Task) (functions : List Truth) (b : Workspace) (used steps : ℕ) (e : End) : Type 0 where
+  pub store : Store (b .arrays .rows) (t .rows) used
+  pub drawn : (v : ℕ) → v < t .count → hasWord (b .arrays .stages) v ≡ true
+      → Drawing t functions (b .arrays .rows) used v (firstWord (b .arrays .diagrams) v) (secondWord (b .arrays .diagrams) v)
+  pub refers : Refers (b .arrays .rows) used (t .inputs) e
   pub counted : steps ≤ t .steps
 
 -- The model's progress has ended, and the words stand for its verdict and its state.
-pub record Ends (t : Task) (functions : List Truth) (o : Progress) (b : Board) (used steps : ℕ) (e : End) : Type 0 where
-  pub reached : o ≡ ends (verdictOf (b .sheets .rows) (t .inputs) e) (stateOn t b used steps)
+pub record Ends (t : Task) (functions : List Truth) (o : Progress) (b : Workspace) (used steps : ℕ) (e : End) : Type 0 where
+  pub reached : o ≡ ends (verdictOf (b .arrays .rows) (t .inputs) e) (stateOn t b used steps)
   pub closed : Closed t functions b used steps e

@@ -4,9 +4,9 @@ use Rattle.aig.specs.Literal.{literalOf}
 use Rattle.aig.specs.Lookup.{firstWord}
 use Rattle.bdd.specs.code.Rows.{ownerAt}
 use Rattle.sweep_graph.specs.code.Graph.{Graph}
-use Rattle.sweep_graph.specs.code.Takes.{Held, Room, held, takesWords}
+use Rattle.sweep_graph.specs.code.Takes.{Held, TakesRoom, held, takesWords}
 use Rattle.sweep_model.specs.Normalise.{mergedInto, normaliseFrom}
-use Rattle.sweep_parts.specs.code.Sheets.{Sheets, drawnAt, sheets}
+use Rattle.sweep_parts.specs.code.Arrays.{Arrays, arrays, drawnAt}
 use Rattle.sweep_parts.specs.declared.task.Task.{Task}
 use Rattle.sweep_parts.specs.declared.twin.Twin.the-variants.{At, None}
 use Rattle.sweep_parts.specs.declared.twin.Twin.{Twin}
@@ -41,50 +41,50 @@ handedIn t pairs h = takesWords pairs (t .first) (t .count - t .first) h
 -- What merging v and w needs: a working graph, room, and that they are two of its vertices, the higher a made one.
 pub record MergeAsked (t : Task) (v w : ℕ) (pairs look : List ℕ) (h : Held) : Type 0 where
   pub graph : Graph (t .first) (t .count) pairs
-  pub room : Room (t .count) h
+  pub room : TakesRoom (t .count) h
   pub look-long : 2 * t .count ≤ length look
   pub made : t .first ≤ max v w
   pub first-within : v < t .count
   pub second-within : w < t .count
   pub other : w ≢ v
 
--- The pairs, and the sheets.
-pub record Board : Type 0 where
+-- The pairs, and the arrays.
+pub record Workspace : Type 0 where
   pub pairs : List ℕ
-  pub sheets : Sheets
+  pub arrays : Arrays
 
-abbrev pub board : List ℕ → Sheets → Board
-board pairs a = record { pairs = pairs; sheets = a }
+abbrev pub workspace : List ℕ → Arrays → Workspace
+workspace pairs a = record { pairs = pairs; arrays = a }
 
--- The sheets as handing over sees them, and with what it left.
-abbrev pub heldOf : Sheets → Held
+-- The arrays as handing over sees them, and with what it left.
+abbrev pub heldOf : Arrays → Held
 heldOf a = held (a .stages) (a .diagrams) (a .rows)
 
-abbrev pub withHeld : Held → Sheets → Sheets
-withHeld h a = sheets (h .diagrams) (h .stages) (h .rows) (a .marks)
+abbrev pub withHeld : Held → Arrays → Arrays
+withHeld h a = arrays (h .diagrams) (h .stages) (h .rows) (a .marks)
 
 -- Vertices v and w merged.
-abbrev pub mergedBoard : Task → ℕ → ℕ → Board → Board
-mergedBoard t v w b =
-    let pairs = mergedPairs t v w (b .pairs) (b .sheets .diagrams) in
-    board pairs (withHeld (handedIn t pairs (heldOf (b .sheets))) (b .sheets))
+abbrev pub mergedWorkspace : Task → ℕ → ℕ → Workspace → Workspace
+mergedWorkspace t v w b =
+    let pairs = mergedPairs t v w (b .pairs) (b .arrays .diagrams) in
+    workspace pairs (withHeld (handedIn t pairs (heldOf (b .arrays))) (b .arrays))
 
 -- Vertex v gets its diagram, and merges with its twin.
-unfoldable pub metWith : Task → ℕ → Board → Twin → Board
+unfoldable pub metWith : Task → ℕ → Workspace → Twin → Workspace
 metWith t v b None = b
-metWith t v b (At w) = mergedBoard t v w b
+metWith t v b (At w) = mergedWorkspace t v w b
 
-abbrev pub metBoard : Task → ℕ → ℕ → ℕ → Board → Board
-metBoard t v reference size b =
-    metWith t v (board (b .pairs) (drawnAt v reference size (b .sheets))) (twinAt (b .sheets .rows) reference)
+abbrev pub metWorkspace : Task → ℕ → ℕ → ℕ → Workspace → Workspace
+metWorkspace t v reference size b =
+    metWith t v (workspace (b .pairs) (drawnAt v reference size (b .arrays))) (twinAt (b .arrays .rows) reference)
 
 -- What that needs.
-pub record MeetAsked (t : Task) (v reference size : ℕ) (look : List ℕ) (b : Board) : Type 0 where
+pub record MeetAsked (t : Task) (v reference size : ℕ) (look : List ℕ) (b : Workspace) : Type 0 where
   pub graph : Graph (t .first) (t .count) (b .pairs)
   pub look-long : 2 * t .count ≤ length look
-  pub marks-long : t .count ≤ length (b .sheets .marks)
-  pub room : Room (t .count) (heldOf (b .sheets))
-  pub row-within : reference / 2 * 4 ≤ length (b .sheets .rows)
+  pub marks-long : t .count ≤ length (b .arrays .marks)
+  pub room : TakesRoom (t .count) (heldOf (b .arrays))
+  pub row-within : reference / 2 * 4 ≤ length (b .arrays .rows)
   pub made : t .first ≤ v
   pub within : v < t .count
-  pub twin : (w : ℕ) → twinAt (b .sheets .rows) reference ≡ At w → (w < t .count) × (w ≢ v)
+  pub twin : (w : ℕ) → twinAt (b .arrays .rows) reference ≡ At w → (w < t .count) × (w ≢ v)

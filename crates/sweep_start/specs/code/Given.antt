@@ -2,12 +2,12 @@
 use Prim.Native.Nat.{_-_, ℕ}
 use Rattle.sweep_model.specs.State.{State}
 use Rattle.sweep_model.specs.code.Steady.{Giving}
-use Rattle.sweep_model.specs.Sweep.{Progress, inputsFrom, on}
+use Rattle.sweep_model.specs.Sweep.{Progress, giveInputs, on}
 use Rattle.sweep_model.specs.declared.Cause.the-variants.{Rows}
 use Rattle.sweep_parts.specs.code.Ending.{Ends}
-use Rattle.sweep_parts.specs.code.Meet.{board}
+use Rattle.sweep_parts.specs.code.Meet.{workspace}
 use Rattle.sweep_parts.specs.code.Represents.{Represents}
-use Rattle.sweep_parts.specs.code.Sheets.{Sheets}
+use Rattle.sweep_parts.specs.code.Arrays.{Arrays}
 use Rattle.sweep_parts.specs.code.Words.{Words, posed, stateOf, words}
 use Rattle.sweep_parts.specs.declared.end.End.the-variants.{Undecided}
 use Rattle.sweep_parts.specs.declared.task.Task.{Task}
@@ -18,41 +18,41 @@ use mathlib.Core.List.{List}
 use mathlib.Core.Path.{_≡_}
 
 -- What stays while the inputs are given their rows: the vertices' functions, the entry rows, the pairs and the steps.
-pub record Frame : Type 0 where
+pub record InputContext : Type 0 where
   pub functions : List Truth
   pub entry : List ℕ
   pub pairs : List ℕ
   pub steps : ℕ
 
-abbrev pub wordsIn : Frame → Sheets → ℕ → Words
+abbrev pub wordsIn : InputContext → Arrays → ℕ → Words
 wordsIn x a used = words (x .pairs) (a .diagrams) (a .stages) (a .rows) (a .marks) used (x .steps)
 
-abbrev pub stateIn : Task → Frame → Sheets → ℕ → State
+abbrev pub stateIn : Task → InputContext → Arrays → ℕ → State
 stateIn t x a used = stateOf (t .count) (wordsIn x a used)
 
 -- The inputs below v have their rows.
-pub record GivenTo (t : Task) (x : Frame) (a : Sheets) (used v : ℕ) : Type 0 where
+pub record GivenTo (t : Task) (x : InputContext) (a : Arrays) (used v : ℕ) : Type 0 where
   pub represents : Represents t (x .functions) (x .entry) (wordsIn x a used)
   pub giving : Giving (posed t (x .functions)) v (stateIn t x a used)
 
--- Such a frame is there.
-pub record Framed (t : Task) (a : Sheets) (used : ℕ) : Type 0 where
-  pub frame : Frame
-  pub given : GivenTo t frame a used 1
+-- Such a context is there.
+pub record HasInputContext (t : Task) (a : Arrays) (used : ℕ) : Type 0 where
+  pub context : InputContext
+  pub given : GivenTo t context a used 1
 
 -- The model's progress from vertex v on.
-abbrev pub givingFrom : Task → Frame → Sheets → ℕ → ℕ → Progress
-givingFrom t x a used v = inputsFrom (posed t (x .functions)) v (t .first - v) (stateIn t x a used)
+abbrev pub givingFrom : Task → InputContext → Arrays → ℕ → ℕ → Progress
+givingFrom t x a used v = giveInputs (posed t (x .functions)) v (t .first - v) (stateIn t x a used)
 
 -- All inputs have their rows.
-pub record AllGiven (t : Task) (x : Frame) (a : Sheets) (used : ℕ) (b : Sheets) (more : ℕ) : Type 0 where
+pub record AllGiven (t : Task) (x : InputContext) (a : Arrays) (used : ℕ) (b : Arrays) (more : ℕ) : Type 0 where
   pub reached : givingFrom t x a used 1 ≡ on (stateIn t x b more)
   pub given : GivenTo t x b more (t .first)
 
 -- "Rows with the vertex at which the row limit was passed".
-abbrev pub ShortAt : Task → Frame → Sheets → ℕ → Sheets → ℕ → ℕ → Type 0
-ShortAt t x a used b v more = Ends t (x .functions) (givingFrom t x a used 1) (board (x .pairs) b) more (x .steps) (Undecided (Rows v))
+abbrev pub ShortAt : Task → InputContext → Arrays → ℕ → Arrays → ℕ → ℕ → Type 0
+ShortAt t x a used b v more = Ends t (x .functions) (givingFrom t x a used 1) (workspace (x .pairs) b) more (x .steps) (Undecided (Rows v))
 
-abbrev pub GivesRows : Task → Sheets → ℕ → Sheets → Inputs → Type 0
-GivesRows t a used b (All more) = (x : Frame) → GivenTo t x a used 1 → AllGiven t x a used b more
-GivesRows t a used b (Short v more) = (x : Frame) → GivenTo t x a used 1 → ShortAt t x a used b v more
+abbrev pub GivesRows : Task → Arrays → ℕ → Arrays → Inputs → Type 0
+GivesRows t a used b (All more) = (x : InputContext) → GivenTo t x a used 1 → AllGiven t x a used b more
+GivesRows t a used b (Short v more) = (x : InputContext) → GivenTo t x a used 1 → ShortAt t x a used b v more

@@ -4,14 +4,14 @@ use Rattle.bdd.specs.code.Rows.{LIMIT, MARK, RADIX}
 use Rattle.sweep_model.specs.Fit.{Fit}
 use Rattle.sweep_model.specs.Normalise.{normalise}
 use Rattle.sweep_model.specs.code.Steady.{Giving}
-use Rattle.sweep_model.specs.Sweep.{Progress, andThen, begin, inputsFrom, look, on, start}
+use Rattle.sweep_model.specs.Sweep.{Progress, andThen, begin, giveInputs, look, on, start}
 use Rattle.sweep_parts.specs.code.Ending.{Ends}
-use Rattle.sweep_parts.specs.code.Meet.{Board}
+use Rattle.sweep_parts.specs.code.Meet.{Workspace}
 use Rattle.sweep_parts.specs.code.Represents.{Represents}
-use Rattle.sweep_parts.specs.code.Settle.{onBoard, stateOn}
+use Rattle.sweep_parts.specs.code.Settle.{onWorkspace, stateOn}
 use Rattle.sweep_parts.specs.code.Words.{posed}
 use Rattle.sweep_parts.specs.declared.task.Task.{Task}
-use Rattle.sweep_turn.specs.code.Turn.{RestOn, firstScene}
+use Rattle.sweep_turn.specs.code.Turn.{RestOn, firstContext}
 use Rattle.sweep_turn.specs.declared.visit.Going.the-variants.{Ended, On}
 use Rattle.sweep_turn.specs.declared.visit.Going.{Going}
 use Rattle.truth.specs.Truth.{Truth}
@@ -20,64 +20,64 @@ use mathlib.Core.List.{List}
 use mathlib.Core.Path.{_≡_}
 
 -- The vertices have these functions, and the pairs are the rows of a graph with them.
-pub record Poses (t : Task) (functions : List Truth) (pairs : List ℕ) : Type 0 where
+pub record HasFunctions (t : Task) (functions : List Truth) (pairs : List ℕ) : Type 0 where
   pub fit : Fit (posed t functions) pairs
   pub count : length functions ≡ t .count
 
 -- What a sweep is asked: such functions are there, the limits are within theirs, and the slices are long enough.
-pub record SweepAsked (t : Task) (places : List ℕ) (b : Board) : Type 0 where
+pub record SweepAsked (t : Task) (places : List ℕ) (b : Workspace) : Type 0 where
   pub functions : List Truth
-  pub poses : Poses t functions (b .pairs)
+  pub has-functions : HasFunctions t functions (b .pairs)
   pub few : t .count ≤ RADIX
   pub narrow : t .inputs < MARK
   pub modest : t .size < 2 ^ 32
   pub most : t .rows ≤ LIMIT
   pub short : t .steps < 2 ^ 32
   pub places-long : 2 * t .count ≤ length places
-  pub diagrams-long : 2 * t .count ≤ length (b .sheets .diagrams)
-  pub stages-long : 2 * t .count ≤ length (b .sheets .stages)
-  pub rows-long : t .rows * 4 ≤ length (b .sheets .rows)
-  pub marks-long : t .count ≤ length (b .sheets .marks)
+  pub diagrams-long : 2 * t .count ≤ length (b .arrays .diagrams)
+  pub stages-long : 2 * t .count ≤ length (b .arrays .stages)
+  pub rows-long : t .rows * 4 ≤ length (b .arrays .rows)
+  pub marks-long : t .count ≤ length (b .arrays .marks)
 
 -- After the first normalising: no input has its row.
-pub record Prepared (t : Task) (functions : List Truth) (entry : List ℕ) (b : Board) : Type 0 where
-  pub represents : Represents t functions entry (onBoard b 0 0)
+pub record Prepared (t : Task) (functions : List Truth) (entry : List ℕ) (b : Workspace) : Type 0 where
+  pub represents : Represents t functions entry (onWorkspace b 0 0)
   pub giving : Giving (posed t functions) 1 (stateOn t b 0 0)
 
-pub record PreparedFrom (t : Task) (functions : List Truth) (b after : Board) : Type 0 where
+pub record PreparedFrom (t : Task) (functions : List Truth) (b after : Workspace) : Type 0 where
   pub reached : stateOn t after 0 0 ≡ normalise (t .first) (begin (posed t functions) (b .pairs))
   pub prepared : Prepared t functions (b .pairs) after
 
-abbrev pub Prepares : Task → Board → Board → Type 0
-Prepares t b after = (functions : List Truth) → Poses t functions (b .pairs) → PreparedFrom t functions b after
+abbrev pub Prepares : Task → Workspace → Workspace → Type 0
+Prepares t b after = (functions : List Truth) → HasFunctions t functions (b .pairs) → PreparedFrom t functions b after
 
 -- Such functions and entry rows are there.
-pub record GivingIn (t : Task) (b : Board) : Type 0 where
+pub record GivingIn (t : Task) (b : Workspace) : Type 0 where
   pub functions : List Truth
   pub entry : List ℕ
   pub prepared : Prepared t functions entry b
 
 -- "3. .. Each input gets its row, upwards, and waits." and the look that follows.
-abbrev pub inputsGiven : Task → List Truth → Board → Progress
+abbrev pub inputsGiven : Task → List Truth → Workspace → Progress
 inputsGiven t functions b =
     let p = posed t functions in
-    andThen (inputsFrom p 1 (t .first - 1) (stateOn t b 0 0)) (look p)
+    andThen (giveInputs p 1 (t .first - 1) (stateOn t b 0 0)) (look p)
 
 -- The model has gone on to these words, and the first turn can begin.
-pub record GoneOn (t : Task) (functions : List Truth) (entry : List ℕ) (o : Progress) (after : Board) (used steps : ℕ) : Type 0 where
+pub record GoneOn (t : Task) (functions : List Truth) (entry : List ℕ) (o : Progress) (after : Workspace) (used steps : ℕ) : Type 0 where
   pub reached : o ≡ on (stateOn t after used steps)
-  pub rests : RestOn t (firstScene t functions entry after used steps) used steps after
+  pub rests : RestOn t (firstContext t functions entry after used steps) used steps after
 
-abbrev pub GivesInputs : Task → Board → Board → Going → Type 0
+abbrev pub GivesInputs : Task → Workspace → Workspace → Going → Type 0
 GivesInputs t b after (On used steps) =
     (functions : List Truth) (entry : List ℕ) → Prepared t functions entry b → GoneOn t functions entry (inputsGiven t functions b) after used steps
 GivesInputs t b after (Ended e used steps) =
     (functions : List Truth) (entry : List ℕ) → Prepared t functions entry b → Ends t functions (inputsGiven t functions b) after used steps e
 
 -- Steps 1, 2, 3 and 5.
-abbrev pub Starts : Task → Board → Board → Going → Type 0
+abbrev pub Starts : Task → Workspace → Workspace → Going → Type 0
 Starts t b after (On used steps) =
-    (functions : List Truth) → Poses t functions (b .pairs)
+    (functions : List Truth) → HasFunctions t functions (b .pairs)
     → GoneOn t functions (b .pairs) (start (posed t functions) (b .pairs)) after used steps
 Starts t b after (Ended e used steps) =
-    (functions : List Truth) → Poses t functions (b .pairs) → Ends t functions (start (posed t functions) (b .pairs)) after used steps e
+    (functions : List Truth) → HasFunctions t functions (b .pairs) → Ends t functions (start (posed t functions) (b .pairs)) after used steps e

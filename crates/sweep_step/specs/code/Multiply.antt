@@ -5,9 +5,9 @@ use Rattle.sweep_model.specs.Sweep.{Progress, multiply}
 use Rattle.sweep_model.specs.declared.Cause.the-variants.{Rows, Steps}
 use Rattle.sweep_parts.specs.code.Ending.{Ends}
 use Rattle.sweep_parts.specs.code.Look.{SeenRefers, progressOf}
-use Rattle.sweep_parts.specs.code.Meet.{Board}
+use Rattle.sweep_parts.specs.code.Meet.{Workspace}
 use Rattle.sweep_parts.specs.code.Represents.{Represents}
-use Rattle.sweep_parts.specs.code.Settle.{Ended, Setting, boardBefore, onBoard, stateOn}
+use Rattle.sweep_parts.specs.code.Settle.{BeforeProduct, Ended, onWorkspace, stateOn, workspaceBefore}
 use Rattle.sweep_parts.specs.code.Words.{posed}
 use Rattle.sweep_parts.specs.declared.end.End.the-variants.{Undecided}
 use Rattle.sweep_parts.specs.declared.look.Seen.{Seen}
@@ -19,44 +19,44 @@ use mathlib.Core.List.{List}
 use mathlib.Core.Path.{_≡_}
 
 -- What stays while a scan goes on: the vertices' functions, the entry rows, the turns left.
-pub record Scene : Type 0 where
+pub record Context : Type 0 where
   pub functions : List Truth
   pub entry : List ℕ
   pub turns : ℕ
 
 -- Vertex v is to have its product taken.
-pub record DueOn (t : Task) (x : Scene) (v used steps : ℕ) (b : Board) : Type 0 where
-  pub represents : Represents t (x .functions) (x .entry) (onBoard b used steps)
+pub record DueOn (t : Task) (x : Context) (v used steps : ℕ) (b : Workspace) : Type 0 where
+  pub represents : Represents t (x .functions) (x .entry) (onWorkspace b used steps)
   pub due : Due (posed t (x .functions)) (x .entry) (x .turns) v (stateOn t b used steps)
 
--- Such a scene is there.
-pub record DueIn (t : Task) (v used steps : ℕ) (b : Board) : Type 0 where
-  pub scene : Scene
-  pub on : DueOn t scene v used steps b
+-- Such a context is there.
+pub record DueIn (t : Task) (v used steps : ℕ) (b : Workspace) : Type 0 where
+  pub context : Context
+  pub on : DueOn t context v used steps b
 
-abbrev pub multiplied : Task → Scene → ℕ → ℕ → ℕ → Board → Progress
+abbrev pub multiplied : Task → Context → ℕ → ℕ → ℕ → Workspace → Progress
 multiplied t x v used steps b = multiply (posed t (x .functions)) v (stateOn t b used steps)
 
 -- The product is done, and the two literals are looked at.
-pub record Looked (t : Task) (x : Scene) (v used steps : ℕ) (b after : Board) (seen : Seen) (more taken : ℕ) : Type 0 where
-  pub reached : multiplied t x v used steps b ≡ progressOf (after .sheets .rows) (t .inputs) (stateOn t after more taken) seen
-  pub represents : Represents t (x .functions) (x .entry) (onBoard after more taken)
-  pub refers : SeenRefers (after .sheets .rows) more (t .inputs) seen
+pub record Looked (t : Task) (x : Context) (v used steps : ℕ) (b after : Workspace) (seen : Seen) (more taken : ℕ) : Type 0 where
+  pub reached : multiplied t x v used steps b ≡ progressOf (after .arrays .rows) (t .inputs) (stateOn t after more taken) seen
+  pub represents : Represents t (x .functions) (x .entry) (onWorkspace after more taken)
+  pub refers : SeenRefers (after .arrays .rows) more (t .inputs) seen
 
--- The scene that a product was taken in.
-abbrev pub sceneOf : Setting → Scene
+-- The context that a product was taken in.
+abbrev pub sceneOf : BeforeProduct → Context
 sceneOf x = record { functions = x .functions; entry = x .entry; turns = x .turns }
 
 -- A product that is done after so many steps: the two literals are looked at, in each setting in which it ended so.
-abbrev pub Concludes : Task → ℕ → ℕ → ℕ → ℕ → ℕ → Board → Board → Step → Type 0
+abbrev pub Concludes : Task → ℕ → ℕ → ℕ → ℕ → ℕ → Workspace → Workspace → Step → Type 0
 Concludes t v reference used kept steps b after (step.Looked seen more taken) =
-    (x : Setting) → Ended t x v reference used kept b → x .taken ≡ steps → Looked t (sceneOf x) v kept (x .steps) (boardBefore x b) after seen more taken
+    (x : BeforeProduct) → Ended t x v reference used kept b → x .taken ≡ steps → Looked t (sceneOf x) v kept (x .steps) (workspaceBefore x b) after seen more taken
 Concludes t v reference used kept steps b after (step.Rows more taken) = ⊥
 Concludes t v reference used kept steps b after (step.Steps more taken) = ⊥
 
-abbrev pub Takes : Task → ℕ → ℕ → ℕ → Board → Board → Step → Type 0
-Takes t v used steps b after (step.Looked seen more taken) = (x : Scene) → DueOn t x v used steps b → Looked t x v used steps b after seen more taken
+abbrev pub Takes : Task → ℕ → ℕ → ℕ → Workspace → Workspace → Step → Type 0
+Takes t v used steps b after (step.Looked seen more taken) = (x : Context) → DueOn t x v used steps b → Looked t x v used steps b after seen more taken
 Takes t v used steps b after (step.Rows more taken) =
-    (x : Scene) → DueOn t x v used steps b → Ends t (x .functions) (multiplied t x v used steps b) after more taken (Undecided (Rows v))
+    (x : Context) → DueOn t x v used steps b → Ends t (x .functions) (multiplied t x v used steps b) after more taken (Undecided (Rows v))
 Takes t v used steps b after (step.Steps more taken) =
-    (x : Scene) → DueOn t x v used steps b → Ends t (x .functions) (multiplied t x v used steps b) after more taken (Undecided (Steps v))
+    (x : Context) → DueOn t x v used steps b → Ends t (x .functions) (multiplied t x v used steps b) after more taken (Undecided (Steps v))

@@ -8,15 +8,15 @@ use Rattle.sweep_model.specs.code.Steady.{Scanning}
 use Rattle.sweep_model.specs.Sweep.{Progress, on, visit}
 use Rattle.sweep_model.specs.declared.Cause.the-variants.{Rows, Steps}
 use Rattle.sweep_parts.specs.code.Ending.{Ends}
-use Rattle.sweep_parts.specs.code.Meet.{Board}
+use Rattle.sweep_parts.specs.code.Meet.{Workspace}
 use Rattle.sweep_parts.specs.code.Represents.{Represents}
-use Rattle.sweep_parts.specs.code.Settle.{onBoard, stateOn}
+use Rattle.sweep_parts.specs.code.Settle.{onWorkspace, stateOn}
 use Rattle.sweep_parts.specs.code.Words.{posed}
 use Rattle.sweep_parts.specs.declared.end.End.the-variants.{Undecided}
 use Rattle.sweep_parts.specs.declared.look.Seen.the-variants.{Decided, Nothing}
 use Rattle.sweep_parts.specs.declared.look.Seen.{Seen}
 use Rattle.sweep_parts.specs.declared.task.Task.{Task}
-use Rattle.sweep_step.specs.code.Multiply.{Scene}
+use Rattle.sweep_step.specs.code.Multiply.{Context}
 use Rattle.sweep_step.specs.declared.multiply.Step.the-variants as step
 use Rattle.sweep_step.specs.declared.multiply.Step.{Step}
 use Rattle.sweep_turn.specs.declared.visit.Going.the-variants.{Ended, On}
@@ -53,24 +53,24 @@ goingOf v (step.Rows u k) = Ended (Undecided (Rows v)) u k
 goingOf v (step.Steps u k) = Ended (Undecided (Steps v)) u k
 
 -- The scan has come to vertex v.
-pub record ScanOn (t : Task) (x : Scene) (v used steps : ℕ) (b : Board) : Type 0 where
-  pub represents : Represents t (x .functions) (x .entry) (onBoard b used steps)
+pub record ScanOn (t : Task) (x : Context) (v used steps : ℕ) (b : Workspace) : Type 0 where
+  pub represents : Represents t (x .functions) (x .entry) (onWorkspace b used steps)
   pub scanning : Scanning (posed t (x .functions)) (x .turns) v (stateOn t b used steps)
 
--- Such a scene is there.
-pub record ScanIn (t : Task) (v used steps : ℕ) (b : Board) : Type 0 where
-  pub scene : Scene
-  pub here : ScanOn t scene v used steps b
+-- Such a context is there.
+pub record ScanIn (t : Task) (v used steps : ℕ) (b : Workspace) : Type 0 where
+  pub context : Context
+  pub here : ScanOn t context v used steps b
 
-abbrev pub visited : Task → Scene → ℕ → ℕ → ℕ → Board → Progress
+abbrev pub visited : Task → Context → ℕ → ℕ → ℕ → Workspace → Progress
 visited t x v used steps b = visit (posed t (x .functions)) v (stateOn t b used steps)
 
 -- The scan goes on at the next vertex.
-pub record WentOn (t : Task) (x : Scene) (v used steps : ℕ) (b after : Board) (more taken : ℕ) : Type 0 where
+pub record WentOn (t : Task) (x : Context) (v used steps : ℕ) (b after : Workspace) (more taken : ℕ) : Type 0 where
   pub reached : visited t x v used steps b ≡ on (stateOn t after more taken)
   pub here : ScanOn t x (suc v) more taken after
 
-abbrev pub Visits : Task → ℕ → ℕ → ℕ → Board → Board → Going → Type 0
-Visits t v used steps b after (On more taken) = (x : Scene) → ScanOn t x v used steps b → WentOn t x v used steps b after more taken
+abbrev pub Visits : Task → ℕ → ℕ → ℕ → Workspace → Workspace → Going → Type 0
+Visits t v used steps b after (On more taken) = (x : Context) → ScanOn t x v used steps b → WentOn t x v used steps b after more taken
 Visits t v used steps b after (Ended e more taken) =
-    (x : Scene) → ScanOn t x v used steps b → Ends t (x .functions) (visited t x v used steps b) after more taken e
+    (x : Context) → ScanOn t x v used steps b → Ends t (x .functions) (visited t x v used steps b) after more taken e

@@ -1,6 +1,6 @@
 -- Invariant: the places below i are cleared, and nothing else is changed.
 -- The measure is what is left of the places.
-use Prim.Native.Nat.{ℕ, _-_, _<_, _≤_}
+use Prim.Native.Nat.{_-_, _<_, _≤_, ℕ}
 use Rattle.aig.proofs.lookup.clear.Statement.{statement}
 use Rattle.aig.proofs.lookup.clear.Tie as tie
 use Rattle.aig.specs.Lookup.{cleared}
@@ -8,7 +8,7 @@ use borrow.Author.Fill.{fill-more}
 use borrow.Author.Needs.{needs}
 use lib.ListN.{length, length-set, set}
 use mathlib.Core.List.{List}
-use mathlib.Core.Path.{_≡_, _∙_, ap, refl}
+use mathlib.Core.Path.{_∙_, _≡_, ap, refl}
 use native.Mathlib.Omega.{arith}
 
 abbrev Inv-loop : tie.InvT-loop

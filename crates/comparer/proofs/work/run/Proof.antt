@@ -4,8 +4,8 @@ use Prim.Native.Nat.{_*_}
 use Rattle.comparer.proofs.RunLaws.{asked, lent-long, ran}
 use Rattle.comparer.proofs.work.run.Statement.{statement}
 use Rattle.comparer.proofs.work.run.Tie as tie
-use Rattle.sweep_parts.specs.code.Meet.{Board, board}
-use Rattle.sweep_parts.specs.code.Sheets.{sheets}
+use Rattle.sweep_parts.specs.code.Meet.{Workspace, workspace}
+use Rattle.sweep_parts.specs.code.Arrays.{arrays}
 use borrow.Author.Needs.{needs}
 use lib.Seq.{length-take-le}
 use mathlib.Core.Path.{sym}
@@ -85,7 +85,7 @@ returns c setting =
     let start = copy .before .before .before .before .before .before .before .before .before in
     let a = start .args in
     let l = ended .sweep .last in
-    let after : Board = board (l .0) (sheets (l .1 .1 .0) (l .1 .1 .1 .0) (l .1 .1 .1 .1 .0) (l .1 .1 .1 .1 .1 .0)) in
+    let after : Workspace = workspace (l .0) (arrays (l .1 .1 .0) (l .1 .1 .1 .0) (l .1 .1 .1 .1 .0) (l .1 .1 .1 .1 .1 .0)) in
     ran (a .table .now) (a .output) (a .limits) (start .pre .0) (start .pre .1 .0) (start .pre .1 .1 .0) (made .task-of .result) (made .task-of .ensures)
     (a .pairs .now) (copy .copy-in .last .1 .0) (copy .copy-in .ensures) (a .pairs .now) (a .look .now) (a .diagrams .now) (a .stages .now) (a .rows .now) (a .marks .now)
     (start .pre .1 .1 .1) setting after (ended .sweep .result) (ended .sweep .ensures) (ended .sweep .kept .1 .1 .1 .1 .1 .0)

@@ -7,7 +7,7 @@ use Rattle.load.specs.code.Decision.{decision}
 use Rattle.table.specs.Refusals.{firstRefusal}
 use borrow.Author.Needs.{needs}
 use borrow.Author.Tests.{le-ltb, lt-ltb}
-use mathlib.Core.Path.{refl, _∙_}
+use mathlib.Core.Path.{_∙_, refl}
 
 refused-requires : tie.Need-refused-requires
 refused-requires c κs = search needs

@@ -7,7 +7,7 @@ use Rattle.load.specs.code.Decision.{pairDecision}
 use Rattle.table.specs.Refusals.{firstRefusal}
 use borrow.Author.Needs.{needs}
 use borrow.Author.Tests.{eq-eqb, le-ltb, lt-ltb, ne-eqb}
-use mathlib.Core.Path.{refl, sym, _∙_}
+use mathlib.Core.Path.{_∙_, refl, sym}
 
 refused-requires : tie.Need-refused-requires
 refused-requires c κs = search needs

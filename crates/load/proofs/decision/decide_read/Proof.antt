@@ -4,7 +4,7 @@ use Rattle.load.proofs.decision.decide_read.Statement.{statement}
 use Rattle.load.proofs.decision.decide_read.Tie as tie
 use Rattle.load.specs.code.Decision.{readDecision}
 use borrow.Author.Needs.{needs}
-use mathlib.Core.Path.{refl, _∙_}
+use mathlib.Core.Path.{_∙_, refl}
 
 enum-known-left : tie.Need-enum-known-left
 enum-known-left c = search needs

@@ -5,7 +5,7 @@ use Rattle.load.proofs.Passing.{gate-due, gate-stored}
 use Rattle.load.proofs.file.ask_line.Statement.{statement}
 use Rattle.load.proofs.file.ask_line.Tie as tie
 use borrow.Author.Needs.{needs}
-use mathlib.Core.Path.{sym, _∙_}
+use mathlib.Core.Path.{_∙_, sym}
 use native.Mathlib.Omega.{arith}
 
 -- The line's gate is asked for and its literal stored; no loop.

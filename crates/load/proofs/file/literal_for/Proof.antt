@@ -3,7 +3,7 @@
 use Rattle.load.proofs.file.literal_for.Statement.{statement}
 use Rattle.load.proofs.file.literal_for.Tie as tie
 use borrow.Author.Needs.{needs}
-use mathlib.Core.Path.{refl, _∙_}
+use mathlib.Core.Path.{_∙_, refl}
 
 vertex-requires : tie.Need-vertex-requires
 vertex-requires c κs = search needs

@@ -4,7 +4,7 @@ use Rattle.load.proofs.FileLoading.{file-built, file-outputs, gates-few
 use Rattle.load.proofs.file.load_file.Statement.{statement}
 use Rattle.load.proofs.file.load_file.Tie as tie
 use borrow.Author.Needs.{needs}
-use mathlib.Core.Path.{refl, _∙_}
+use mathlib.Core.Path.{_∙_, refl}
 use native.Mathlib.Omega.{arith}
 
 add-first : tie.Need-add-first

@@ -5,7 +5,7 @@ use Rattle.load.proofs.Passing.{output-due, output-stored}
 use Rattle.load.proofs.file.output_literal.Statement.{statement}
 use Rattle.load.proofs.file.output_literal.Tie as tie
 use borrow.Author.Needs.{needs}
-use mathlib.Core.Path.{sym, _∙_}
+use mathlib.Core.Path.{_∙_, sym}
 use native.Mathlib.Omega.{arith}
 
 -- The literal for the line's reference; no loop.

@@ -5,7 +5,7 @@ use Rattle.load.proofs.PairLoading.{count-within, table-is, table-room,
 use Rattle.load.proofs.pair.load_pair.Statement.{statement}
 use Rattle.load.proofs.pair.load_pair.Tie as tie
 use borrow.Author.Needs.{needs}
-use mathlib.Core.Path.{refl, _∙_}
+use mathlib.Core.Path.{_∙_, refl}
 use native.Mathlib.Omega.{arith}
 
 add-first : tie.Need-add-first

@@ -8,7 +8,7 @@ use Rattle.text.specs.Split.{upTo}
 use borrow.Author.Needs.{needs}
 use lib.ListN.{length}
 use mathlib.Core.List.{List}
-use mathlib.Core.Path.{_≡_, ap, _∙_}
+use mathlib.Core.Path.{_∙_, _≡_, ap}
 use native.Mathlib.Omega.{arith}
 
 abbrev Inv-loop : tie.InvT-loop

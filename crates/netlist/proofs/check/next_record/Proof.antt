@@ -4,7 +4,7 @@ use Rattle.netlist.proofs.LineLaws.{line-last, line-whole}
 use Rattle.netlist.proofs.check.next_record.Statement.{statement}
 use Rattle.netlist.proofs.check.next_record.Tie as tie
 use borrow.Author.Needs.{needs}
-use mathlib.Core.Path.{sym, _∙_}
+use mathlib.Core.Path.{_∙_, sym}
 
 until-requires : tie.Need-until-requires
 until-requires c κs = search needs

@@ -3,7 +3,7 @@
 use Rattle.netlist.proofs.lines.read_line.Statement.{statement}
 use Rattle.netlist.proofs.lines.read_line.Tie as tie
 use borrow.Author.Needs.{needs}
-use mathlib.Core.Path.{refl, _∙_}
+use mathlib.Core.Path.{_∙_, refl}
 
 until-requires : tie.Need-until-requires
 until-requires c κs = search needs

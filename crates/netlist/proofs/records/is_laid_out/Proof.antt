@@ -5,7 +5,7 @@ use Rattle.netlist.proofs.records.is_laid_out.Tie as tie
 use Rattle.text.proofs.SplitLaws.{splitAt-some}
 use borrow.Author.Needs.{needs}
 use borrow.Author.Tests.{eq-eqb, ne-eqb}
-use mathlib.Core.Path.{refl, sym, _∙_}
+use mathlib.Core.Path.{_∙_, refl, sym}
 
 part-count-requires : tie.Need-part-count-requires
 part-count-requires c κs = search needs

@@ -4,7 +4,7 @@ use Rattle.netlist.proofs.records.operation_of.Statement.{statement}
 use Rattle.netlist.proofs.records.operation_of.Tie as tie
 use Rattle.netlist.specs.Records.{operationOf}
 use borrow.Author.Needs.{needs}
-use mathlib.Core.Path.{refl, sym, _∙_}
+use mathlib.Core.Path.{_∙_, refl, sym}
 
 slice-aggregate-same : tie.Need-slice-aggregate-same
 slice-aggregate-same c = search needs

@@ -3,7 +3,7 @@
 use Rattle.netlist.proofs.records.read_header.Statement.{statement}
 use Rattle.netlist.proofs.records.read_header.Tie as tie
 use borrow.Author.Needs.{needs}
-use mathlib.Core.Path.{refl, _∙_}
+use mathlib.Core.Path.{_∙_, refl}
 
 part-requires : tie.Need-part-requires
 part-requires c κs = search needs

@@ -7,7 +7,7 @@ use Rattle.netlist.specs.Records.{fieldsRecord, recordOf}
 use Rattle.text.specs.Split.{splitAt}
 use borrow.Author.Needs.{needs}
 use mathlib.Core.List.{[], _∷_}
-use mathlib.Core.Path.{refl, sym, _∙_}
+use mathlib.Core.Path.{_∙_, refl, sym}
 
 slice-aggregate-is-laid-out : tie.Need-slice-aggregate-is-laid-out
 slice-aggregate-is-laid-out c = search needs

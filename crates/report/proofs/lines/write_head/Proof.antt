@@ -3,7 +3,7 @@
 use Rattle.report.proofs.LineLaws.{printed-line, printed-none}
 use Rattle.report.proofs.lines.write_head.Statement.{statement}
 use Rattle.report.proofs.lines.write_head.Tie as tie
-use Rattle.report.specs.Report.{headLine, LINE-ROOM}
+use Rattle.report.specs.Report.{LINE-ROOM, headLine}
 use borrow.Author.Needs.{needs}
 use native.Mathlib.Omega.{arith}
 

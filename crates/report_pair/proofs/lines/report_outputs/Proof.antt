@@ -1,7 +1,7 @@
 -- From turn to turn the lines of the comparisons made so far are stored, and the slices hold what the last of them left.
 -- The measure is how many outputs are left.
 use Prim.Native.Nat.{_-_, _≤_}
-use Rattle.compare_model.specs.Compare.{Room}
+use Rattle.compare_model.specs.Compare.{CompareRoom}
 use Rattle.report_pair.proofs.ComparedLaws.{same-room}
 use Rattle.report_pair.proofs.PrintingLaws.{Printing, here-ready, line-room, printing-end, printing-length, printing-more, printing-none}
 use Rattle.report_pair.proofs.lines.report_outputs.Statement.{statement}
@@ -66,19 +66,19 @@ same-length-2 : tie.Need-same-length-2 Inv-loop μ-loop
 same-length-2 c = c .before .loop .inv .0 .same .table
 
 same-length-3 : tie.Need-same-length-3 Inv-loop μ-loop
-same-length-3 c = ap (λ (r : Room). r .pairs) (c .before .loop .inv .0 .same .room)
+same-length-3 c = ap (λ (r : CompareRoom). r .pairs) (c .before .loop .inv .0 .same .room)
 
 same-length-4 : tie.Need-same-length-4 Inv-loop μ-loop
-same-length-4 c = ap (λ (r : Room). r .look) (c .before .loop .inv .0 .same .room)
+same-length-4 c = ap (λ (r : CompareRoom). r .look) (c .before .loop .inv .0 .same .room)
 
 same-length-5 : tie.Need-same-length-5 Inv-loop μ-loop
-same-length-5 c = ap (λ (r : Room). r .diagrams) (c .before .loop .inv .0 .same .room)
+same-length-5 c = ap (λ (r : CompareRoom). r .diagrams) (c .before .loop .inv .0 .same .room)
 
 same-length-6 : tie.Need-same-length-6 Inv-loop μ-loop
-same-length-6 c = ap (λ (r : Room). r .stages) (c .before .loop .inv .0 .same .room)
+same-length-6 c = ap (λ (r : CompareRoom). r .stages) (c .before .loop .inv .0 .same .room)
 
 same-length-7 : tie.Need-same-length-7 Inv-loop μ-loop
-same-length-7 c = ap (λ (r : Room). r .rows) (c .before .loop .inv .0 .same .room)
+same-length-7 c = ap (λ (r : CompareRoom). r .rows) (c .before .loop .inv .0 .same .room)
 
 same-length-8 : tie.Need-same-length-8 Inv-loop μ-loop
 same-length-8 c = c .before .loop .inv .0 .same .marks

@@ -1,12 +1,12 @@
 -- Invariant: what is picked is the definition from vertex v on.
 -- The measure is v.
-use Prim.Native.Nat.{ℕ, _-_, _≤_}
+use Prim.Native.Nat.{_-_, _≤_, ℕ}
 use Rattle.sweep_graph.proofs.PickLaws.{least-is, least-more}
 use Rattle.sweep_graph.proofs.pick.pick.Statement.{statement}
 use Rattle.sweep_graph.proofs.pick.pick.Tie as tie
 use Rattle.sweep_graph.specs.code.Pick.{leastFrom}
 use borrow.Author.Needs.{needs}
-use mathlib.Core.Path.{_≡_, _∙_, ap, refl, sym}
+use mathlib.Core.Path.{_∙_, _≡_, ap, refl, sym}
 use native.Mathlib.Omega.{arith}
 
 abbrev Inv-loop : tie.InvT-loop

@@ -1,7 +1,7 @@
 -- Invariant: the inputs below v have their rows, and the model goes on from there as it went from the first.
 -- The measure is what is left of the first vertices.
 use Prim.Native.Nat.{_-_}
-use Rattle.sweep_parts.specs.code.Sheets.{sheets}
+use Rattle.sweep_parts.specs.code.Arrays.{arrays}
 use Rattle.sweep_start.proofs.InputModel.{Along, along-asks, along-begins, along-ends, along-goes-on, along-short}
 use Rattle.sweep_start.proofs.inputs.give_rows.Statement.{statement}
 use Rattle.sweep_start.proofs.inputs.give_rows.Tie as tie
@@ -10,7 +10,7 @@ use native.Mathlib.Omega.{arith}
 
 abbrev Inv-loop : tie.InvT-loop
 Inv-loop diagrams₀ stages₀ rows₀ marks₀ task used first more₀ v₀ diagrams stages rows marks more v =
-    Along task (sheets diagrams₀ stages₀ rows₀ marks₀) used (sheets diagrams stages rows marks) more v
+    Along task (arrays diagrams₀ stages₀ rows₀ marks₀) used (arrays diagrams stages rows marks) more v
 
 abbrev μ-loop : tie.MeasureT-loop
 μ-loop diagrams₀ stages₀ rows₀ marks₀ task used first more₀ v₀ diagrams stages rows marks more v =

@@ -1,7 +1,7 @@
 -- Whether every input got its row decides; no loop.
 -- One law for each answer, for all functions and entry rows.
-use Rattle.sweep_parts.specs.code.Meet.{board}
-use Rattle.sweep_parts.specs.code.Sheets.{sheets}
+use Rattle.sweep_parts.specs.code.Meet.{workspace}
+use Rattle.sweep_parts.specs.code.Arrays.{arrays}
 use Rattle.sweep_start.proofs.BeginModel.{given-goes, given-looks, given-short, giving-framed}
 use Rattle.sweep_start.proofs.start.give_inputs.Statement.{statement}
 use Rattle.sweep_start.proofs.start.give_inputs.Tie as tie
@@ -17,7 +17,7 @@ look-requires : tie.Need-look-requires
 look-requires c κs =
     let give-rows = c .before .before .before .before .before .before .before .before .before .before .before .before .before .give-rows in
     let start = c .before .before .before .before .before .before .before .before .before .before .before .before .before .before .before .before .before .before .before .before .before .before .before in
-    given-looks (start .args .task) (board (start .args .pairs .now) (sheets (start .args .diagrams .now) (start .args .stages .now) (start .args .rows .now) (start .args .marks .now))) (sheets (give-rows .last .0) (give-rows .last .1 .0) (give-rows .last .1 .1 .0) (give-rows .last .1 .1 .1 .0)) (c .before .before .before .inputs .given .0 .0) (c .before .before .before .inputs .given .1) (give-rows .ensures) (start .pre)
+    given-looks (start .args .task) (workspace (start .args .pairs .now) (arrays (start .args .diagrams .now) (start .args .stages .now) (start .args .rows .now) (start .args .marks .now))) (arrays (give-rows .last .0) (give-rows .last .1 .0) (give-rows .last .1 .1 .0) (give-rows .last .1 .1 .1 .0)) (c .before .before .before .inputs .given .0 .0) (c .before .before .before .inputs .given .1) (give-rows .ensures) (start .pre)
 
 after-look-requires : tie.Need-after-look-requires
 after-look-requires c κs = search needs
@@ -42,7 +42,7 @@ returns c =
     let inputs = c .before .before .before .before .before .inputs in
     let give-rows = c .before .before .before .before .before .before .before .before .before .before .before .before .before .before .before .give-rows in
     let start = c .before .before .before .before .before .before .before .before .before .before .before .before .before .before .before .before .before .before .before .before .before .before .before .before .before in
-    given-goes (start .args .task) (board (start .args .pairs .now) (sheets (start .args .diagrams .now) (start .args .stages .now) (start .args .rows .now) (start .args .marks .now))) (sheets (give-rows .last .0) (give-rows .last .1 .0) (give-rows .last .1 .1 .0) (give-rows .last .1 .1 .1 .0)) (inputs .given .0 .0) (inputs .given .1) (give-rows .ensures) (c .before .look .result) (c .before .look .ensures) (c .after-look .ensures)
+    given-goes (start .args .task) (workspace (start .args .pairs .now) (arrays (start .args .diagrams .now) (start .args .stages .now) (start .args .rows .now) (start .args .marks .now))) (arrays (give-rows .last .0) (give-rows .last .1 .0) (give-rows .last .1 .1 .0) (give-rows .last .1 .1 .1 .0)) (inputs .given .0 .0) (inputs .given .1) (give-rows .ensures) (c .before .look .result) (c .before .look .ensures) (c .after-look .ensures)
 
 same-length-5 : tie.Need-same-length-5
 same-length-5 c = search needs
@@ -60,7 +60,7 @@ returns-2 : tie.Need-returns-2
 returns-2 c =
     let give-rows = c .before .before .before .before .before .before .before .before .before .before .before .give-rows in
     let start = c .before .before .before .before .before .before .before .before .before .before .before .before .before .before .before .before .before .before .before .before .before in
-    given-short (start .args .task) (board (start .args .pairs .now) (sheets (start .args .diagrams .now) (start .args .stages .now) (start .args .rows .now) (start .args .marks .now))) (sheets (give-rows .last .0) (give-rows .last .1 .0) (give-rows .last .1 .1 .0) (give-rows .last .1 .1 .1 .0)) (c .before .inputs2 .given .0 .0) (c .before .inputs2 .given .0 .1 .0) (c .before .inputs2 .given .1) (give-rows .ensures)
+    given-short (start .args .task) (workspace (start .args .pairs .now) (arrays (start .args .diagrams .now) (start .args .stages .now) (start .args .rows .now) (start .args .marks .now))) (arrays (give-rows .last .0) (give-rows .last .1 .0) (give-rows .last .1 .1 .0) (give-rows .last .1 .1 .1 .0)) (c .before .inputs2 .given .0 .0) (c .before .inputs2 .given .0 .1 .0) (c .before .inputs2 .given .1) (give-rows .ensures)
 
 pub give-inputs-spec : {M : Type 1} → statement M
 give-inputs-spec =

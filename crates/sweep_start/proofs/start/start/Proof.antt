@@ -1,7 +1,7 @@
 -- What the first look sees decides; no loop.
 -- One law for each way, for all functions.
-use Rattle.sweep_parts.specs.code.Meet.{board}
-use Rattle.sweep_parts.specs.code.Sheets.{sheets}
+use Rattle.sweep_parts.specs.code.Meet.{workspace}
+use Rattle.sweep_parts.specs.code.Arrays.{arrays}
 use Rattle.sweep_start.proofs.BeginModel.{prepared-giving, prepared-looks, start-ends, start-gives}
 use Rattle.sweep_start.proofs.start.start.Statement.{statement}
 use Rattle.sweep_start.proofs.start.start.Tie as tie
@@ -14,7 +14,7 @@ look-requires : tie.Need-look-requires
 look-requires c κs =
     let prepare = c .before .before .before .before .before .before .before .before .before .before .before .before .before .before .before .prepare in
     let start = c .before .before .before .before .before .before .before .before .before .before .before .before .before .before .before .before .before .before .before .before .before .before .before .before .before .before .before .before in
-    prepared-looks (start .args .task) (board (start .args .pairs .now) (sheets (start .args .diagrams .now) (start .args .stages .now) (start .args .rows .now) (start .args .marks .now))) (board (prepare .last .0) (sheets (prepare .last .1 .1 .0) (prepare .last .1 .1 .1 .0) (prepare .last .1 .1 .1 .1 .0) (prepare .last .1 .1 .1 .1 .1 .0))) (prepare .ensures) (start .pre)
+    prepared-looks (start .args .task) (workspace (start .args .pairs .now) (arrays (start .args .diagrams .now) (start .args .stages .now) (start .args .rows .now) (start .args .marks .now))) (workspace (prepare .last .0) (arrays (prepare .last .1 .1 .0) (prepare .last .1 .1 .1 .0) (prepare .last .1 .1 .1 .1 .0) (prepare .last .1 .1 .1 .1 .1 .0))) (prepare .ensures) (start .pre)
 
 enum-told : tie.Need-enum-told
 enum-told c = search needs
@@ -23,7 +23,7 @@ give-inputs-requires : tie.Need-give-inputs-requires
 give-inputs-requires c κs =
     let prepare = c .before .before .before .before .before .before .before .before .before .before .before .before .before .before .before .before .before .before .before .before .before .before .before .prepare in
     let start = c .before .before .before .before .before .before .before .before .before .before .before .before .before .before .before .before .before .before .before .before .before .before .before .before .before .before .before .before .before .before .before .before .before .before .before .before in
-    prepared-giving (start .args .task) (board (start .args .pairs .now) (sheets (start .args .diagrams .now) (start .args .stages .now) (start .args .rows .now) (start .args .marks .now))) (board (prepare .last .0) (sheets (prepare .last .1 .1 .0) (prepare .last .1 .1 .1 .0) (prepare .last .1 .1 .1 .1 .0) (prepare .last .1 .1 .1 .1 .1 .0))) (prepare .ensures) (start .pre)
+    prepared-giving (start .args .task) (workspace (start .args .pairs .now) (arrays (start .args .diagrams .now) (start .args .stages .now) (start .args .rows .now) (start .args .marks .now))) (workspace (prepare .last .0) (arrays (prepare .last .1 .1 .0) (prepare .last .1 .1 .1 .0) (prepare .last .1 .1 .1 .1 .0) (prepare .last .1 .1 .1 .1 .1 .0))) (prepare .ensures) (start .pre)
 
 enum-known-seen : tie.Need-enum-known-seen
 enum-known-seen c = search needs
@@ -53,7 +53,7 @@ returns c =
     let look = c .before .before .before .before .before .before .before .before .before .before .before .before .before .before .before .before .look in
     let prepare = c .before .before .before .before .before .before .before .before .before .before .before .before .before .before .before .before .before .before .before .before .before .before .before .before .before .before .before .before .before .before .before .before .prepare in
     let start = c .before .before .before .before .before .before .before .before .before .before .before .before .before .before .before .before .before .before .before .before .before .before .before .before .before .before .before .before .before .before .before .before .before .before .before .before .before .before .before .before .before .before .before .before .before in
-    start-gives (start .args .task) (board (start .args .pairs .now) (sheets (start .args .diagrams .now) (start .args .stages .now) (start .args .rows .now) (start .args .marks .now))) (board (prepare .last .0) (sheets (prepare .last .1 .1 .0) (prepare .last .1 .1 .1 .0) (prepare .last .1 .1 .1 .1 .0) (prepare .last .1 .1 .1 .1 .1 .0))) (prepare .ensures) (look .ensures) (enum-told .given .1) (board (prepare .last .0) (sheets (give-inputs .last .1 .0) (give-inputs .last .1 .1 .0) (give-inputs .last .1 .1 .1 .0) (give-inputs .last .1 .1 .1 .1 .0))) (give-inputs .result) (give-inputs .ensures)
+    start-gives (start .args .task) (workspace (start .args .pairs .now) (arrays (start .args .diagrams .now) (start .args .stages .now) (start .args .rows .now) (start .args .marks .now))) (workspace (prepare .last .0) (arrays (prepare .last .1 .1 .0) (prepare .last .1 .1 .1 .0) (prepare .last .1 .1 .1 .1 .0) (prepare .last .1 .1 .1 .1 .1 .0))) (prepare .ensures) (look .ensures) (enum-told .given .1) (workspace (prepare .last .0) (arrays (give-inputs .last .1 .0) (give-inputs .last .1 .1 .0) (give-inputs .last .1 .1 .1 .0) (give-inputs .last .1 .1 .1 .1 .0))) (give-inputs .result) (give-inputs .ensures)
 
 same-length-7 : tie.Need-same-length-7
 same-length-7 c = search needs
@@ -78,7 +78,7 @@ returns-2 c =
     let look = c .before .before .before .look in
     let prepare = c .before .before .before .before .before .before .before .before .before .before .before .before .before .before .before .before .before .before .before .prepare in
     let start = c .before .before .before .before .before .before .before .before .before .before .before .before .before .before .before .before .before .before .before .before .before .before .before .before .before .before .before .before .before .before .before .before in
-    start-ends (start .args .task) (board (start .args .pairs .now) (sheets (start .args .diagrams .now) (start .args .stages .now) (start .args .rows .now) (start .args .marks .now))) (board (prepare .last .0) (sheets (prepare .last .1 .1 .0) (prepare .last .1 .1 .1 .0) (prepare .last .1 .1 .1 .1 .0) (prepare .last .1 .1 .1 .1 .1 .0))) (prepare .ensures) (look .ensures) (c .before .seen .given .1)
+    start-ends (start .args .task) (workspace (start .args .pairs .now) (arrays (start .args .diagrams .now) (start .args .stages .now) (start .args .rows .now) (start .args .marks .now))) (workspace (prepare .last .0) (arrays (prepare .last .1 .1 .0) (prepare .last .1 .1 .1 .0) (prepare .last .1 .1 .1 .1 .0) (prepare .last .1 .1 .1 .1 .1 .0))) (prepare .ensures) (look .ensures) (c .before .seen .given .1)
 
 pub start-spec : {M : Type 1} → statement M
 start-spec =

@@ -1,7 +1,7 @@
 -- The product's answer decides; no loop.
--- One law for each answer, in every scene.
-use Rattle.sweep_parts.specs.code.Meet.{board}
-use Rattle.sweep_parts.specs.code.Sheets.{sheets}
+-- One law for each answer, in every context.
+use Rattle.sweep_parts.specs.code.Meet.{workspace}
+use Rattle.sweep_parts.specs.code.Arrays.{arrays}
 use Rattle.sweep_step.proofs.MultiplyModel.{lacking-rows, lacking-steps, multiply-concludes, multiply-lacks-rows, multiply-lacks-steps, product-asked, product-ended}
 use Rattle.sweep_step.proofs.multiply.multiply.Statement.{statement}
 use Rattle.sweep_step.proofs.multiply.multiply.Tie as tie
@@ -57,9 +57,9 @@ returns c =
     let concluded = c .before .before .before .before .before .before .before .before .before .before .before .before .conclude in
     let long : length (taken .last .1 .1 .0) ≡ length (start .rows .now) = search needs in
     multiply-concludes (start .task) (start .v) (start .steps)
-    (board (start .pairs .now) (sheets (start .diagrams .now) (start .stages .now) (start .rows .now) (start .marks .now)))
+    (workspace (start .pairs .now) (arrays (start .diagrams .now) (start .stages .now) (start .rows .now) (start .marks .now)))
     (λ x d. product-ended d (taken .last .1 .1 .0) (c .before .before .before .before .before .before .before .before .before .before .before .before .before .before .before .before .before .before .before .before .product .given .1) (taken .ensures) long)
-    (board (concluded .last .0) (sheets (concluded .last .1 .1 .0) (concluded .last .1 .1 .1 .0) (concluded .last .1 .1 .1 .1 .0) (concluded .last .1 .1 .1 .1 .1 .0)))
+    (workspace (concluded .last .0) (arrays (concluded .last .1 .1 .0) (concluded .last .1 .1 .1 .0) (concluded .last .1 .1 .1 .1 .0) (concluded .last .1 .1 .1 .1 .1 .0)))
     (concluded .result) (concluded .ensures)
 
 same-length-7 : tie.Need-same-length-7

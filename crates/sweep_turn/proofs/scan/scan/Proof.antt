@@ -1,8 +1,8 @@
 -- Invariant: the scan has come to vertex v, and the model goes on from there as it went from the first.
 -- The measure is what is left of the count.
 use Prim.Native.Nat.{_-_}
-use Rattle.sweep_parts.specs.code.Meet.{board}
-use Rattle.sweep_parts.specs.code.Sheets.{sheets}
+use Rattle.sweep_parts.specs.code.Meet.{workspace}
+use Rattle.sweep_parts.specs.code.Arrays.{arrays}
 use Rattle.sweep_turn.proofs.ScanModel.{Scanned, scan-asks, scan-begins, scan-ends, scan-goes-on, scan-stops}
 use Rattle.sweep_turn.proofs.scan.scan.Statement.{statement}
 use Rattle.sweep_turn.proofs.scan.scan.Tie as tie
@@ -11,7 +11,7 @@ use native.Mathlib.Omega.{arith}
 
 abbrev Inv-loop : tie.InvT-loop
 Inv-loop pairs₀ places₀ diagrams₀ stages₀ rows₀ marks₀ task from used steps count v₀ more₀ taken₀ pairs places diagrams stages rows marks v more taken =
-    Scanned task from used steps (board pairs₀ (sheets diagrams₀ stages₀ rows₀ marks₀)) places₀ v more taken (board pairs (sheets diagrams stages rows marks)) places
+    Scanned task from used steps (workspace pairs₀ (arrays diagrams₀ stages₀ rows₀ marks₀)) places₀ v more taken (workspace pairs (arrays diagrams stages rows marks)) places
 
 abbrev μ-loop : tie.MeasureT-loop
 μ-loop pairs₀ places₀ diagrams₀ stages₀ rows₀ marks₀ task from used steps count v₀ more₀ taken₀ pairs places diagrams stages rows marks v more taken =
@@ -52,7 +52,7 @@ same-length-6 c = search needs
 returns : tie.Need-returns Inv-loop μ-loop
 returns c =
     scan-stops (c .before .before .before .before .before .before .before .before .before .before .before .before .before .before .before .before .before .before .before .before .before .before .before .loop .inv)
-    (board (c .before .before .before .before .before .before .before .before .before .before .before .before .before .before .before .visit .last .0) (sheets (c .before .before .before .before .before .before .before .before .before .before .before .before .before .before .before .visit .last .1 .1 .0) (c .before .before .before .before .before .before .before .before .before .before .before .before .before .before .before .visit .last .1 .1 .1 .0) (c .before .before .before .before .before .before .before .before .before .before .before .before .before .before .before .visit .last .1 .1 .1 .1 .0) (c .before .before .before .before .before .before .before .before .before .before .before .before .before .before .before .visit .last .1 .1 .1 .1 .1 .0)))
+    (workspace (c .before .before .before .before .before .before .before .before .before .before .before .before .before .before .before .visit .last .0) (arrays (c .before .before .before .before .before .before .before .before .before .before .before .before .before .before .before .visit .last .1 .1 .0) (c .before .before .before .before .before .before .before .before .before .before .before .before .before .before .before .visit .last .1 .1 .1 .0) (c .before .before .before .before .before .before .before .before .before .before .before .before .before .before .before .visit .last .1 .1 .1 .1 .0) (c .before .before .before .before .before .before .before .before .before .before .before .before .before .before .before .visit .last .1 .1 .1 .1 .1 .0)))
     (c .before .before .before .before .before .before .before .before .before .before .before .before .before .before .before .before .before .before .before .before .before .before .loop-test .taken) (c .before .going2 .given .1) (c .before .before .before .before .before .before .before .before .before .before .before .before .before .before .before .visit .ensures)
 
 add-v : tie.Need-add-v Inv-loop μ-loop
@@ -64,7 +64,7 @@ loop-less c = omega (arith, c .before .before .before .before .before .before .b
 loop-again : tie.Need-loop-again Inv-loop μ-loop
 loop-again c =
     scan-goes-on (c .before .before .before .before .before .before .before .before .before .before .before .before .before .before .before .before .before .before .before .before .before .before .before .loop .inv)
-    (board (c .before .before .before .before .before .before .before .before .before .before .before .before .before .before .before .visit .last .0) (sheets (c .before .before .before .before .before .before .before .before .before .before .before .before .before .before .before .visit .last .1 .1 .0) (c .before .before .before .before .before .before .before .before .before .before .before .before .before .before .before .visit .last .1 .1 .1 .0) (c .before .before .before .before .before .before .before .before .before .before .before .before .before .before .before .visit .last .1 .1 .1 .1 .0) (c .before .before .before .before .before .before .before .before .before .before .before .before .before .before .before .visit .last .1 .1 .1 .1 .1 .0)))
+    (workspace (c .before .before .before .before .before .before .before .before .before .before .before .before .before .before .before .visit .last .0) (arrays (c .before .before .before .before .before .before .before .before .before .before .before .before .before .before .before .visit .last .1 .1 .0) (c .before .before .before .before .before .before .before .before .before .before .before .before .before .before .before .visit .last .1 .1 .1 .0) (c .before .before .before .before .before .before .before .before .before .before .before .before .before .before .before .visit .last .1 .1 .1 .1 .0) (c .before .before .before .before .before .before .before .before .before .before .before .before .before .before .before .visit .last .1 .1 .1 .1 .1 .0)))
     (c .before .before .before .before .before .before .before .before .before .before .before .before .before .before .before .visit .last .1 .0) (c .before .before .before .before .before .before .before .before .before .before .before .before .before .before .before .before .before .before .before .before .before .before .loop-test .taken) (c .before .going .given .1) (c .before .before .before .before .before .before .before .before .before .before .before .before .before .before .before .visit .ensures)
     (record { pairs = search needs; diagrams = search needs; stages = search needs; rows = search needs; marks = search needs }) (search needs)
 

@@ -2,8 +2,8 @@
 -- The measure is the turns left.
 use Rattle.sweep_graph.specs.code.Stages.{stagesOf}
 use Rattle.sweep_model.specs.Sweep.{turnsLeft}
-use Rattle.sweep_parts.specs.code.Meet.{board}
-use Rattle.sweep_parts.specs.code.Sheets.{sheets}
+use Rattle.sweep_parts.specs.code.Meet.{workspace}
+use Rattle.sweep_parts.specs.code.Arrays.{arrays}
 use Rattle.sweep_turn.proofs.GoModel.{Turning, pick-asks, turn-asks, turns-begin, turns-end, turns-fall, turns-go-on, turns-stop}
 use Rattle.sweep_turn.proofs.turn.go.Statement.{statement}
 use Rattle.sweep_turn.proofs.turn.go.Tie as tie
@@ -12,7 +12,7 @@ use native.Mathlib.Omega.{arith}
 
 abbrev Inv-loop : tie.InvT-loop
 Inv-loop pairs₀ places₀ diagrams₀ stages₀ rows₀ marks₀ task used steps more₀ taken₀ pairs places diagrams stages rows marks more taken =
-    Turning task used steps (board pairs₀ (sheets diagrams₀ stages₀ rows₀ marks₀)) places₀ more taken (board pairs (sheets diagrams stages rows marks)) places
+    Turning task used steps (workspace pairs₀ (arrays diagrams₀ stages₀ rows₀ marks₀)) places₀ more taken (workspace pairs (arrays diagrams stages rows marks)) places
 
 abbrev μ-loop : tie.MeasureT-loop
 μ-loop pairs₀ places₀ diagrams₀ stages₀ rows₀ marks₀ task used steps more₀ taken₀ pairs places diagrams stages rows marks more taken =
@@ -40,7 +40,7 @@ loop-less : tie.Need-loop-less Inv-loop μ-loop
 loop-less c =
     let opened = c .before .before .before .before .before .before .before .before .before .before .before .before .before .before .before .«open» in
     turns-fall (c .before .before .before .before .before .before .before .before .before .before .before .before .before .before .before .before .before .before .before .before .before .before .before .before .before .before .before .before .loop .inv) (c .before .before .before .before .before .before .before .before .before .before .before .before .before .before .before .before .before .before .before .before .before .before .before .picked .given .1) (c .before .before .before .before .before .before .before .before .before .before .before .before .before .before .before .before .before .before .before .before .before .before .before .before .before .pick .ensures)
-    (board (opened .last .0) (sheets (opened .last .1 .1 .0) (opened .last .1 .1 .1 .0) (opened .last .1 .1 .1 .1 .0) (opened .last .1 .1 .1 .1 .1 .0)))
+    (workspace (opened .last .0) (arrays (opened .last .1 .1 .0) (opened .last .1 .1 .1 .0) (opened .last .1 .1 .1 .1 .0) (opened .last .1 .1 .1 .1 .1 .0)))
     (opened .ensures) (c .before .going .given .1)
     (c .before .before .before .before .before .before .before .before .before .before .before .before .before .before .before .before .before .before .before .before .before .before .before .before .before .before .before .before .before .before .before .before .before .before .before .pre .0)
 
@@ -48,7 +48,7 @@ loop-again : tie.Need-loop-again Inv-loop μ-loop
 loop-again c =
     let opened = c .before .before .before .before .before .before .before .before .before .before .before .before .before .before .before .«open» in
     turns-go-on (c .before .before .before .before .before .before .before .before .before .before .before .before .before .before .before .before .before .before .before .before .before .before .before .before .before .before .before .before .loop .inv) (c .before .before .before .before .before .before .before .before .before .before .before .before .before .before .before .before .before .before .before .before .before .before .before .picked .given .1) (c .before .before .before .before .before .before .before .before .before .before .before .before .before .before .before .before .before .before .before .before .before .before .before .before .before .pick .ensures)
-    (board (opened .last .0) (sheets (opened .last .1 .1 .0) (opened .last .1 .1 .1 .0) (opened .last .1 .1 .1 .1 .0) (opened .last .1 .1 .1 .1 .1 .0)))
+    (workspace (opened .last .0) (arrays (opened .last .1 .1 .0) (opened .last .1 .1 .1 .0) (opened .last .1 .1 .1 .1 .0) (opened .last .1 .1 .1 .1 .1 .0)))
     (opened .ensures) (c .before .going .given .1) (opened .last .1 .0)
     (record { pairs = search needs; diagrams = search needs; stages = search needs; rows = search needs; marks = search needs }) (search needs)
 
@@ -77,7 +77,7 @@ returns : tie.Need-returns Inv-loop μ-loop
 returns c =
     let opened = c .before .before .before .before .before .before .before .before .before .before .before .before .before .before .before .«open» in
     turns-stop (c .before .before .before .before .before .before .before .before .before .before .before .before .before .before .before .before .before .before .before .before .before .before .before .before .before .before .before .before .loop .inv) (c .before .before .before .before .before .before .before .before .before .before .before .before .before .before .before .before .before .before .before .before .before .before .before .picked .given .1) (c .before .before .before .before .before .before .before .before .before .before .before .before .before .before .before .before .before .before .before .before .before .before .before .before .before .pick .ensures)
-    (board (opened .last .0) (sheets (opened .last .1 .1 .0) (opened .last .1 .1 .1 .0) (opened .last .1 .1 .1 .1 .0) (opened .last .1 .1 .1 .1 .1 .0)))
+    (workspace (opened .last .0) (arrays (opened .last .1 .1 .0) (opened .last .1 .1 .1 .0) (opened .last .1 .1 .1 .1 .0) (opened .last .1 .1 .1 .1 .1 .0)))
     (opened .ensures) (c .before .going2 .given .1)
 
 enum-told : tie.Need-enum-told Inv-loop μ-loop

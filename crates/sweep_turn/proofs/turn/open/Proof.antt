@@ -1,7 +1,7 @@
 -- The vertex that waits opens, and the scan goes on from the next; no loop.
 -- One law for what the scan asks, and one for what it reached.
-use Rattle.sweep_parts.specs.code.Meet.{board}
-use Rattle.sweep_parts.specs.code.Sheets.{sheets}
+use Rattle.sweep_parts.specs.code.Meet.{workspace}
+use Rattle.sweep_parts.specs.code.Arrays.{arrays}
 use Rattle.sweep_turn.proofs.TurnModel.{open-asks, open-ends}
 use Rattle.sweep_turn.proofs.turn.open.Statement.{statement}
 use Rattle.sweep_turn.proofs.turn.open.Tie as tie
@@ -17,7 +17,7 @@ add-scan c = search needs
 scan-requires : tie.Need-scan-requires
 scan-requires c κs =
     let start = c .before .before .before .before .before .before .before .before .before .before .before .before .before .before .before .before in (
-      open-asks (board (start .args .pairs .now) (sheets (start .args .diagrams .now) (start .args .stages .now) (start .args .rows .now) (start .args .marks .now))) (c .before .before .before .before .before .before .before .before .set-stage .ensures) (start .pre .0),
+      open-asks (workspace (start .args .pairs .now) (arrays (start .args .diagrams .now) (start .args .stages .now) (start .args .rows .now) (start .args .marks .now))) (c .before .before .before .before .before .before .before .before .set-stage .ensures) (start .pre .0),
       (omega (arith, start .pre .0 .on .inside), start .pre .1),
     )
 
@@ -44,9 +44,9 @@ returns c =
     let start = c .before .before .before .before .before .before .before .before .before .before .before .before .before .before .before .before .before .before .before .before .before .before .before .before .before .before .before .before .before in
     let scanned = c .before .before .before .before .before .before .before .before .before .before .before .before .scan in
     open-ends (start .args .task) (start .args .v) (start .args .used) (start .args .steps)
-    (board (start .args .pairs .now) (sheets (start .args .diagrams .now) (start .args .stages .now) (start .args .rows .now) (start .args .marks .now)))
+    (workspace (start .args .pairs .now) (arrays (start .args .diagrams .now) (start .args .stages .now) (start .args .rows .now) (start .args .marks .now)))
     (c .before .before .before .before .before .before .before .before .before .before .before .before .before .before .before .before .before .before .before .before .before .set-stage .ensures)
-    (board (scanned .last .0) (sheets (scanned .last .1 .1 .0) (scanned .last .1 .1 .1 .0) (scanned .last .1 .1 .1 .1 .0) (scanned .last .1 .1 .1 .1 .1 .0)))
+    (workspace (scanned .last .0) (arrays (scanned .last .1 .1 .0) (scanned .last .1 .1 .1 .0) (scanned .last .1 .1 .1 .1 .0) (scanned .last .1 .1 .1 .1 .1 .0)))
     (scanned .result) (scanned .ensures)
 
 pub open-spec : {M : Type 1} → statement M

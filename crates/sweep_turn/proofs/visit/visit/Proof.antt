@@ -1,7 +1,7 @@
 -- Whether the vertex is ready decides; no loop.
--- One law for each way, in every scene.
-use Rattle.sweep_parts.specs.code.Meet.{board}
-use Rattle.sweep_parts.specs.code.Sheets.{sheets}
+-- One law for each way, in every context.
+use Rattle.sweep_parts.specs.code.Meet.{workspace}
+use Rattle.sweep_parts.specs.code.Arrays.{arrays}
 use Rattle.sweep_turn.proofs.VisitModel.{ready-asked, ready-due, visit-passes, visit-went}
 use Rattle.sweep_turn.proofs.visit.visit.Statement.{statement}
 use Rattle.sweep_turn.proofs.visit.visit.Tie as tie
@@ -13,7 +13,7 @@ is-ready-requires c κs = ready-asked (c .before .before .before .before .before
 multiply-requires : tie.Need-multiply-requires
 multiply-requires c κs =
     let start = c .before .before .before .before .before .before .before .before .before .before .before .before .before .before .before .before in (
-      record { scene = start .pre .0 .scene; on = ready-due (start .pre .0 .here) (start .pre .1 .0) (c .before .before .before .before .before .before .before .is-ready .ensures) (c .before .before .before .before .before .before .if1 .taken) },
+      record { context = start .pre .0 .context; on = ready-due (start .pre .0 .here) (start .pre .1 .0) (c .before .before .before .before .before .before .before .is-ready .ensures) (c .before .before .before .before .before .before .if1 .taken) },
       start .pre .1 .1,
     )
 
@@ -44,8 +44,8 @@ returns c =
     let if1 = c .before .before .before .before .before .before .before .before .before .before .before .before .before .before .before .before .before .before .before .before .if1 in
     let is-ready = c .before .before .before .before .before .before .before .before .before .before .before .before .before .before .before .before .before .before .before .before .before .is-ready in
     let start = c .before .before .before .before .before .before .before .before .before .before .before .before .before .before .before .before .before .before .before .before .before .before .before .before .before .before .before .before .before .before in
-    visit-went (start .args .task) (start .args .v) (start .args .used) (start .args .steps) (board (start .args .pairs .now) (sheets (start .args .diagrams .now) (start .args .stages .now) (start .args .rows .now) (start .args .marks .now))) (start .pre .1 .0) (is-ready .ensures) (if1 .taken)
-    (board (multiply .last .0) (sheets (multiply .last .1 .1 .0) (multiply .last .1 .1 .1 .0) (multiply .last .1 .1 .1 .1 .0) (multiply .last .1 .1 .1 .1 .1 .0)))
+    visit-went (start .args .task) (start .args .v) (start .args .used) (start .args .steps) (workspace (start .args .pairs .now) (arrays (start .args .diagrams .now) (start .args .stages .now) (start .args .rows .now) (start .args .marks .now))) (start .pre .1 .0) (is-ready .ensures) (if1 .taken)
+    (workspace (multiply .last .0) (arrays (multiply .last .1 .1 .0) (multiply .last .1 .1 .1 .0) (multiply .last .1 .1 .1 .1 .0) (multiply .last .1 .1 .1 .1 .1 .0)))
     (multiply .result) (c .after-product .ensures) (multiply .ensures)
 
 same-length-7 : tie.Need-same-length-7
@@ -57,7 +57,7 @@ same-length-8 c = search needs
 returns-2 : tie.Need-returns-2
 returns-2 c =
     let start = c .before .before .before .before .before .before .before .before .before .before in
-    visit-passes (start .args .task) (start .args .v) (start .args .used) (start .args .steps) (board (start .args .pairs .now) (sheets (start .args .diagrams .now) (start .args .stages .now) (start .args .rows .now) (start .args .marks .now))) (start .pre .1 .0) (c .before .is-ready .ensures) (c .if1 .left)
+    visit-passes (start .args .task) (start .args .v) (start .args .used) (start .args .steps) (workspace (start .args .pairs .now) (arrays (start .args .diagrams .now) (start .args .stages .now) (start .args .rows .now) (start .args .marks .now))) (start .pre .1 .0) (c .before .is-ready .ensures) (c .if1 .left)
 
 pub visit-spec : {M : Type 1} → statement M
 visit-spec =

@@ -1,6 +1,6 @@
 -- The measure is the number printed, which is divided by ten at the call.
 -- There is no loop: what the call stored, and the last digit after it, is the number stored.
-use Prim.Native.Nat.{ℕ, _<_}
+use Prim.Native.Nat.{_<_, ℕ}
 use Rattle.text.proofs.DecimalSteps.{digit-fits, last-fits, stored-digit, stored-more, tenth-fits}
 use Rattle.text.proofs.decimal.+print.Lts-print as print-lts
 use Rattle.text.proofs.decimal.+print.Tie.{close}

@@ -7,20 +7,20 @@ use lib.ListN.{set}
 use mathlib.Core.List.{List}
 
 -- The words of diagrams, stages and rows and the bytes of marks.
-pub record Sheets : Type 0 where
+pub record Arrays : Type 0 where
   pub diagrams : List ℕ
   pub stages : List ℕ
   pub rows : List ℕ
   pub marks : List ℕ
 
-abbrev pub sheets : List ℕ → List ℕ → List ℕ → List ℕ → Sheets
-sheets diagrams stages rows marks = record { diagrams = diagrams; stages = stages; rows = rows; marks = marks }
+abbrev pub arrays : List ℕ → List ℕ → List ℕ → List ℕ → Arrays
+arrays diagrams stages rows marks = record { diagrams = diagrams; stages = stages; rows = rows; marks = marks }
 
 -- Vertex v has the diagram of a reference, owns its row, waits, and is marked 1.
-abbrev pub drawnAt : ℕ → ℕ → ℕ → Sheets → Sheets
+abbrev pub drawnAt : ℕ → ℕ → ℕ → Arrays → Arrays
 drawnAt v reference size a =
-    sheets (withRow (a .diagrams) v reference size) (withStage (a .stages) v 1) (withOwner (a .rows) (reference / 2) v) (set (a .marks) v 1)
+    arrays (withRow (a .diagrams) v reference size) (withStage (a .stages) v 1) (withOwner (a .rows) (reference / 2) v) (set (a .marks) v 1)
 
--- The sheets with other rows.
-abbrev pub onRows : List ℕ → Sheets → Sheets
-onRows rows a = sheets (a .diagrams) (a .stages) rows (a .marks)
+-- The arrays with other rows.
+abbrev pub onRows : List ℕ → Arrays → Arrays
+onRows rows a = arrays (a .diagrams) (a .stages) rows (a .marks)
