@@ -1,3 +1,5 @@
+-- The line is put into a part of the slice; no loop.
+-- The part is as long as the line can be.
 use Prim.Native.Nat.{_+_, _-_, ℕ}
 use Rattle.report_pair.proofs.PartLaws.{part-stored, room-short}
 use Rattle.reply_line.specs.Line.{roomFor}
