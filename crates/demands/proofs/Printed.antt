@@ -8,23 +8,23 @@ use Rattle.demands.proofs.ReplyLaws.{reply-kept}
 use Rattle.demands.specs.Claims.{ReplyKept}
 use Rattle.demands.specs.Demand3.{Call, Each, Ran}
 use Rattle.demands.specs.Example.{callOf}
-use Rattle.demands.specs.Printed.{Numbered, PrintedTrue, TrueLine, callLine, callLines, says-different, says-equal, says-undecided}
+use Rattle.demands.specs.Printed.{Numbered, PrintedRefused, PrintedTrue, TrueLine, callLine, callLines, says-different, says-equal, says-undecided}
 use Rattle.loader.proofs.LoadLaws.{load-only}
 use Rattle.loader.proofs.TableLaws.{table-accepted}
 use Rattle.loader.specs.Load.{tableAfter, tableOf}
 use Rattle.loader.specs.Loadable.{Loadable}
-use Rattle.loader.specs.declared.Loaded.the-variants.{Accepted}
+use Rattle.loader.specs.declared.Loaded.the-variants as load
 use Rattle.netlist.specs.Check.{readNetlist}
 use Rattle.netlist.specs.Limits.{edition}
 use Rattle.netlist.specs.Netlist.{Netlist}
 use Rattle.reply_line.specs.Line.{lineFor}
-use Rattle.report.specs.Report.{headLine, replyLine}
+use Rattle.report.specs.Report.{headLine, refusedLine, replyLine}
 use Rattle.report.specs.declared.fields.Vertex.the-variants.{None}
 use Rattle.report.specs.declared.fields.Word.the-variants as word
 use Rattle.report_model.proofs.ComparisonLaws.{after-next}
 use Rattle.report_model.proofs.ReportLaws.{long-enough, report-loaded}
 use Rattle.report_model.proofs.RoomLaws.{Roomy, never-refused, outputs-next, roomy-next}
-use Rattle.report_model.specs.Report.{Lent, after, comparisonLine, comparisons, firstOf, linesOf, loadRoom, next, programLimits, reported}
+use Rattle.report_model.specs.Report.{after, comparisonLine, comparisons, firstOf, linesOf, loadRoom, next, programLimits, reported}
 use Rattle.sweep_model.specs.declared.Reply.the-variants.{Different, Equal, Refused, Undecided}
 use Rattle.sweep_model.specs.declared.Reply.{Reply}
 use Rattle.table.specs.Table.{inputsOf, outputsOf}
@@ -96,7 +96,7 @@ module _ {d e : Netlist} (h : Loadable d e) (old : List ℕ) where
 pub printed-true : PrintedTrue
 unfolding reported tableAfter
 printed-true left right lent tally d e long a l r =
-    rw (report-loaded left right lent long (Accepted tally) a (tableOf d e (lent .table)) (rw (l, r) refl))
+    rw (report-loaded left right lent long (load.Accepted tally) a (tableOf d e (lent .table)) (rw (l, r) refl))
     (record {
       calls = calls;
       bytes = take-append-seam bytes _ ∙ ap (_++_ headLine) (lines-calls n first);
@@ -137,3 +137,10 @@ printed-true left right lent tally d e long a l r =
           marks = lengths .marks;
           setting = lengths .setting;
         }
+
+-- That of a refused load is its line.
+pub printed-refused : PrintedRefused
+unfolding reported
+printed-refused left right lent number file line long a =
+    rw (report-loaded left right lent long (load.Refused number file line) a (tableAfter (load.Refused number file line) (readNetlist left) (readNetlist right) (lent .table)) refl)
+    (take-append-seam (refusedLine number file line) _)

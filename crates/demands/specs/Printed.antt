@@ -5,13 +5,13 @@ use Rattle.compare_model.specs.Compare.{settingBytes}
 use Rattle.demands.specs.Claims.{Agree, Separated}
 use Rattle.demands.specs.Demand3.{Call, Each, Holds, Ran}
 use Rattle.loader.specs.Load.{loadResult, tableOf}
-use Rattle.loader.specs.declared.Loaded.the-variants.{Accepted}
+use Rattle.loader.specs.declared.Loaded.the-variants.{Accepted, Refused}
 use Rattle.loader.specs.declared.Tally.{Tally}
 use Rattle.netlist.specs.Check.{read, readNetlist}
 use Rattle.netlist.specs.Limits.{edition}
 use Rattle.netlist.specs.Netlist.{Netlist}
 use Rattle.reply_line.specs.Line.{causeVertex, causeWord, lineFor}
-use Rattle.report.specs.Report.{headLine, replyLine}
+use Rattle.report.specs.Report.{headLine, refusedLine, replyLine}
 use Rattle.report.specs.declared.fields.Vertex.the-variants.{None}
 use Rattle.report.specs.declared.fields.Word.the-variants.{Different, Equal}
 use Rattle.report_model.specs.Report.{Lent, Report, loadRoom, programLimits, reportOf, short?}
@@ -58,3 +58,10 @@ PrintedTrue =
     (left right : List ℕ) (lent : Lent) (tally : Tally) (d e : Netlist)
     → short? lent ≡ false → loadResult left right (loadRoom lent) ≡ Accepted tally → readNetlist left ≡ read d → readNetlist right ≡ read e
     → Printed d e (tableOf d e (lent .table)) (reportOf left right lent)
+
+-- "A refused load prints only `refused⇥number⇥file⇥line`."
+abbrev pub PrintedRefused : Type 0
+PrintedRefused =
+    (left right : List ℕ) (lent : Lent) (number file line : ℕ)
+    → short? lent ≡ false → loadResult left right (loadRoom lent) ≡ Refused number file line
+    → take (reportOf left right lent .count) (reportOf left right lent .out) ≡ refusedLine number file line

@@ -2,14 +2,14 @@
 -- What the comparison left is what the next one is given, and the line of its reply is its line.
 use Rattle.compare_model.specs.Compare.{Given}
 use Rattle.report_pair.proofs.ComparedLaws.{compared-next, compared-stored, same-room}
+use Rattle.report_pair.proofs.lines.report_output.Statement.{statement}
+use Rattle.report_pair.proofs.lines.report_output.Tie as tie
 use Rattle.report_pair.specs.Slices.{asked}
 use Rattle.table.specs.Table.{inputsOf}
 use borrow.Author.Needs.{needs}
 use lib.Seq.{length-take-le}
 use mathlib.Core.Path.{sym}
 use native.Mathlib.Omega.{arith}
-use Rattle.report_pair.proofs.lines.report_output.Statement.{statement}
-use Rattle.report_pair.proofs.lines.report_output.Tie as tie
 
 slice-read-inputs : tie.Need-slice-read-inputs
 slice-read-inputs c = search needs
