@@ -9,22 +9,22 @@ use Rattle.demands.proofs.ReplyLaws.{reply-kept}
 use Rattle.demands.specs.Claims.{ReplyKept}
 use Rattle.demands.specs.Demand3.{Call, Each, Ran}
 use Rattle.demands.specs.Example.{callOf}
-use Rattle.demands.specs.Printed.{Numbered, PrintedTrue, TrueLine, callLine, callLines, says-different, says-equal, says-undecided}
+use Rattle.demands.specs.Printed.{Numbered, PrintedRefused, PrintedTrue, TrueLine, callLine, callLines, says-different, says-equal, says-undecided}
 use Rattle.load_model.proofs.LoadLaws.{load-only}
 use Rattle.load_model.proofs.TableLaws.{table-accepted}
-use Rattle.load_model.specs.Load.{accepted, tableAfter, tableOf}
+use Rattle.load_model.specs.Load.{accepted, refused, tableAfter, tableOf}
 use Rattle.load_model.specs.Loadable.{Loadable}
 use Rattle.netlist.specs.Check.{readNetlist}
 use Rattle.netlist.specs.Limits.{edition}
 use Rattle.netlist.specs.Netlist.{Netlist}
 use Rattle.reply_line.specs.Line.{lineFor}
-use Rattle.report.specs.Report.{headLine, replyLine}
+use Rattle.report.specs.Report.{headLine, refusedLine, replyLine}
 use Rattle.report.specs.declared.fields.Vertex.the-variants.{None}
 use Rattle.report.specs.declared.fields.Word.the-variants as word
 use Rattle.report_model.proofs.ComparisonLaws.{after-next}
 use Rattle.report_model.proofs.ReportLaws.{long-enough, report-loaded}
 use Rattle.report_model.proofs.RoomLaws.{Roomy, never-refused, outputs-next, roomy-next}
-use Rattle.report_model.specs.Report.{Lent, after, comparisonLine, comparisons, firstOf, linesOf, loadRoom, next, programLimits, reported}
+use Rattle.report_model.specs.Report.{after, comparisonLine, comparisons, firstOf, linesOf, loadRoom, next, programLimits, reported}
 use Rattle.sweep_model.specs.declared.Cause.the-variants.{Idle, Rows, Size, Steps}
 use Rattle.table.specs.Table.{inputsOf, outputsOf}
 use lib.ListN.{length, length-map, take}
@@ -139,3 +139,10 @@ printed-true left right lent tally d e long a l r =
           marks = lengths .marks;
           setting = lengths .setting;
         }
+
+-- That of a refused load is its line.
+pub printed-refused : PrintedRefused
+unfolding reported
+printed-refused left right lent number file line long a =
+    rw (report-loaded left right lent long (refused number file line) a (tableAfter (refused number file line) (readNetlist left) (readNetlist right) (lent .table)) refl)
+    (take-append-seam (refusedLine number file line) _)

@@ -4,14 +4,14 @@ use Prim.Native.Nat.{suc, ℕ}
 use Rattle.compare_model.specs.Compare.{settingBytes}
 use Rattle.demands.specs.Claims.{Agree, Separated}
 use Rattle.demands.specs.Demand3.{Call, Each, Holds, Ran}
-use Rattle.load_model.specs.Load.{accepted, loadResult, tableOf}
+use Rattle.load_model.specs.Load.{accepted, loadResult, refused, tableOf}
 use Rattle.load_model.specs.declared.Tally.{Tally}
 use Rattle.netlist.specs.Check.{read, readNetlist}
 use Rattle.netlist.specs.Limits.{edition}
 use Rattle.netlist.specs.Netlist.{Netlist}
 use Rattle.reply_line.specs.code.Cause.{causeVertex, causeWord}
 use Rattle.reply_line.specs.Line.{lineFor}
-use Rattle.report.specs.Report.{headLine, replyLine}
+use Rattle.report.specs.Report.{headLine, refusedLine, replyLine}
 use Rattle.report.specs.declared.fields.Vertex.the-variants.{None}
 use Rattle.report.specs.declared.fields.Word.the-variants.{Different, Equal}
 use Rattle.report_model.specs.Report.{Lent, Report, loadRoom, programLimits, reportOf, short?}
@@ -58,3 +58,10 @@ PrintedTrue =
     (left right : List ℕ) (lent : Lent) (tally : Tally) (d e : Netlist)
     → short? lent ≡ false → loadResult left right (loadRoom lent) ≡ accepted tally → readNetlist left ≡ read d → readNetlist right ≡ read e
     → Printed d e (tableOf d e (lent .table)) (reportOf left right lent)
+
+-- "A refused load prints only `refused⇥number⇥file⇥line`."
+abbrev pub PrintedRefused : Type 0
+PrintedRefused =
+    (left right : List ℕ) (lent : Lent) (number file line : ℕ)
+    → short? lent ≡ false → loadResult left right (loadRoom lent) ≡ refused number file line
+    → take (reportOf left right lent .count) (reportOf left right lent .out) ≡ refusedLine number file line

@@ -29,5 +29,15 @@ use Rattle.truth.specs.Truth.{conj, constant?, constantly, input, invert, same?
 use mathlib.Core.Path.{refl}
 
 pub cards : Cards
-unfolding askXor checkFile checkFrom below? due? dueAfter finish formed? gatesIn header? known? limited? more? outputsIn readBy readNetlist digitsFrom numeralOf fieldsRecord fileRecords operationOf recordOf recordsOf unended foldOf firstVertex ownWords askAnd askGate askGates buildFile buildPair emptyBuild foldedOrNot foundOrMade literalsFrom countsDiffer? loadResult readResult shortLoad? tallyOf andCount firstRefusal tableAfter tableOf tableWords answerTo answered beyond? compared graphWords outputsLeft outside? problemOf refusalOf settingBytes settingLeft shortSlice? tableLeft turnedBack outputWords pairs rowsOf sideOutputs malformed? beyondLimits? outOfOrder? downward? allBelow? rowBelow? graphOf functionsOf firstFunctions inputsFrom vertexValues conj constant? constantly input invert same? sweep resultOf anyDropped? cause conclude giveRow go goFor meet multiply openAt pickFrom ready? scanFrom smaller swept topPart turnsLeft turnsOf twinFrom visit dropVertex giveInputs start look lookAt andThen begin normalise normaliseFrom normaliseRow foldedRow foundRow resolve takesFrom takeAt wakeAt wake has? gone? bare? dropped? open? waits? saidBy _andThen_ addPart addRow countStep plain run among distinct filter alike? cofactors depends? parts size terminal? firstDifference valueAt reportOf reported shortRoom? after next comparisons comparisonLine linesOf headLine replyLine refusedLine decimal digitsWithin
+unfolding askXor checkFile checkFrom below? due? dueAfter finish formed? gatesIn header? known? limited? more? outputsIn readBy readNetlist
+    digitsFrom numeralOf fieldsRecord fileRecords operationOf recordOf recordsOf unended foldOf firstVertex ownWords askAnd askGate askGates
+    buildFile buildPair emptyBuild foldedOrNot foundOrMade literalsFrom countsDiffer? loadResult readResult shortLoad? tallyOf andCount firstRefusal
+    tableAfter tableOf tableWords answerTo answered beyond? compared graphWords outputsLeft outside? problemOf refusalOf settingBytes settingLeft
+    shortSlice? tableLeft turnedBack outputWords pairs rowsOf sideOutputs malformed? beyondLimits? outOfOrder? downward? allBelow? rowBelow? graphOf
+    functionsOf firstFunctions inputsFrom vertexValues conj constant? constantly input invert same? sweep resultOf anyDropped? cause conclude
+    giveRow go goFor meet multiply openAt pickFrom ready? scanFrom smaller swept topPart turnsLeft turnsOf twinFrom visit dropVertex giveInputs
+    start look lookAt andThen begin normalise normaliseFrom normaliseRow foldedRow foundRow resolve takesFrom takeAt wakeAt wake has? gone? bare?
+    dropped? open? waits? saidBy _andThen_ addPart addRow countStep plain run among distinct filter alike? cofactors depends? parts size terminal?
+    firstDifference valueAt reportOf reported shortRoom? after next comparisons comparisonLine linesOf headLine replyLine refusedLine decimal
+    digitsWithin
 cards = record { sample = refl; twice = refl; empty = refl }

@@ -4,7 +4,7 @@ use Rattle.compare_model.proofs.Since.{Since, since-compared, since-loaded}
 use Rattle.compare_model.specs.Compare.{Given}
 use Rattle.report_model.specs.Report.{after, comparisonLine, comparisons, linesOf, next}
 use Rattle.table.specs.Accepted.{Accepted}
-use mathlib.Core.List.{List, [], _++_, _∷_, append-assoc, append-nil}
+use mathlib.Core.List.{_++_, append-assoc, append-nil}
 use mathlib.Core.Path.{_∙_, _≡_, ap, refl, sym}
 
 -- The comparison after the n-th is the n-th after the next.

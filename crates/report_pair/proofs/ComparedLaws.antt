@@ -12,7 +12,7 @@ use Rattle.table.specs.Table.{inputsOf}
 use lib.ListN.{length, take}
 use lib.Seq.{length-take-le}
 use mathlib.Core.List.{List}
-use mathlib.Core.Path.{_≡_, ap, refl, subst, sym}
+use mathlib.Core.Path.{_≡_, ap, refl, subst}
 use native.Mathlib.Omega.{arith}
 
 -- Working slices of the same lengths.

@@ -6,12 +6,12 @@ use report_model::STEP_LIMIT;
 use sweep_model::Reply;
 ghost use Prim.Native.Nat.{_*_, _+_, _≤_};
 ghost use Rattle.compare_model.specs.Said.{saidOf};
+ghost use Rattle.reply_line.specs.Line.{lineFor};
 ghost use Rattle.report.specs.Report.{LINE-ROOM, StoredWithin, headLine};
 ghost use Rattle.report_model.specs.Report.{after, comparisonLine, comparisons, linesOf, next, replyRoom, reportRoom};
 ghost use Rattle.report_pair.specs.code.Slices.{Ready, asked};
-ghost use Rattle.reply_line.specs.Line.{lineFor};
 ghost use Rattle.table.specs.Table.{outputsOf};
-ghost use lib.ListN.{length, take};
+ghost use lib.ListN.{length};
 ghost use mathlib.Core.List.{_++_};
 ghost use mathlib.Core.Path.{_≡_};
 

@@ -43,13 +43,15 @@ enum-told c = search needs
 
 report-table-requires : tie.Need-report-table-requires
 report-table-requires c κs =
-    let told = c .before .before .before .before .before .before .before .before .before .enum-told .given .1 in
-    let load = c .before .before .before .before .before .before .before .before .before .before .before .before .before .before .before .before .before .before .before .before .before .load in
-    let a = c .before .before .before .before .before .before .before .before .before .before .before .before .before .before .before .before .before .before .before .before .before .before .before .before .before .before .before .before .before .before .before .before .before .before .before .before .before .before .before .before .args in
+    let matched = c .before .before .before .before .before .before .before .before .before in
+    let loaded = matched .before .before .before .before .before .before .before .before .before .before .before .before in
+    let test = loaded .before .before .before .before .before .before in
+    let load = loaded .load in
+    let a = test .before .before .before .before .before .before .before .before .before .before .before .before .before .args in
     let l : Lent = lent (a .out .now) (a .table .now) (a .pairs .now) (a .look .now) (a .diagrams .now) (a .stages .now) (a .rows .now) (a .marks .now) (a .setting .now) in
-    let long : short? l ≡ false = sym (c .before .before .before .before .before .before .before .before .before .before .before .before .before .before .before .before .before .before .before .before .before .before .before .before .before .before .before .before .is-short .ensures) ∙ c .before .before .before .before .before .before .before .before .before .before .before .before .before .before .before .before .before .before .before .before .before .before .before .before .before .before .before .if1 .left in
+    let long : short? l ≡ false = sym (test .before .is-short .ensures) ∙ test .if1 .left in
     let bounds = long-enough (length (a .out .now)) (length (a .rows .now)) (length (a .marks .now)) (length (a .setting .now)) long in
-    (table-ready (a .left .now) (a .right .now) (loadRoom l) (answerOf (load .result)) _ (load .ensures .0) (ap answerOf told) (load .last .1 .1 .0) (a .table .now) (load .ensures .1 .0) (bounds .setting), bounds .out)
+    (table-ready (a .left .now) (a .right .now) (loadRoom l) (answerOf (load .result)) _ (load .ensures .0) (ap answerOf (matched .enum-told .given .1)) (load .last .1 .1 .0) (a .table .now) (load .ensures .1 .0) (bounds .setting), bounds .out)
 
 same-length : tie.Need-same-length
 same-length c = search needs
@@ -71,16 +73,19 @@ same-length-6 c = search needs
 
 returns-2 : tie.Need-returns-2
 returns-2 c =
-    let told = c .before .before .before .before .before .loaded .given .1 in
-    let load = c .before .before .before .before .before .before .before .before .before .before .before .before .before .before .before .before .before .load in
-    let a = c .before .before .before .before .before .before .before .before .before .before .before .before .before .before .before .before .before .before .before .before .before .before .before .before .before .before .before .before .before .before .before .before .before .before .before .before .args in
-    let l : Lent = lent (a .out .now) (a .table .now) (a .pairs .now) (a .look .now) (a .diagrams .now) (a .stages .now) (a .rows .now) (a .marks .now) (a .setting .now) in
-    let long : short? l ≡ false = sym (c .before .before .before .before .before .before .before .before .before .before .before .before .before .before .before .before .before .before .before .before .before .before .before .before .is-short .ensures) ∙ c .before .before .before .before .before .before .before .before .before .before .before .before .before .before .before .before .before .before .before .before .before .before .before .if1 .left in
     let write = c .before .before .write-refused .ensures in
+    let matched = c .before .before .before .before .before in
+    let loaded = matched .before .before .before .before .before .before .before .before .before .before .before .before in
+    let test = loaded .before .before .before .before .before .before in
+    let load = loaded .load in
+    let told = ap answerOf (matched .loaded .given .1) in
+    let a = test .before .before .before .before .before .before .before .before .before .before .before .before .before .args in
+    let l : Lent = lent (a .out .now) (a .table .now) (a .pairs .now) (a .look .now) (a .diagrams .now) (a .stages .now) (a .rows .now) (a .marks .now) (a .setting .now) in
+    let long : short? l ≡ false = sym (test .before .is-short .ensures) ∙ test .if1 .left in
     let bounds = long-enough (length (a .out .now)) (length (a .rows .now)) (length (a .marks .now)) (length (a .setting .now)) long in (
-      refused-report (a .left .now) (a .right .now) l long (answerOf (load .result)) (load .ensures .0) (load .last .1 .1 .0) (load .ensures .1 .0) _ _ _ (ap answerOf told) (omega (arith, bounds .out)) _ _
+      refused-report (a .left .now) (a .right .now) l long (answerOf (load .result)) (load .ensures .0) (load .last .1 .1 .0) (load .ensures .1 .0) _ _ _ told (omega (arith, bounds .out)) _ _
           write,
-      (record { within = write .within; front = write .front }, λ h. refused-unchanged (answerOf (load .result)) (ap answerOf told) (working (a .pairs .now) (a .look .now) (a .diagrams .now) (a .stages .now)) _ (load .ensures .1 .1) (a .rows .now)),
+      (record { within = write .within; front = write .front }, λ h. refused-unchanged (answerOf (load .result)) told (working (a .pairs .now) (a .look .now) (a .diagrams .now) (a .stages .now)) _ (load .ensures .1 .1) (a .rows .now)),
     )
 
 same-length-7 : tie.Need-same-length-7
@@ -112,18 +117,26 @@ same-length-15 c = search needs
 
 returns-3 : tie.Need-returns-3
 returns-3 c =
-    let told = c .before .before .before .before .before .before .before .before .before .before .before .before .before .before .before .before .before .before .before .before .before .before .before .before .before .before .before .before .enum-told .given .1 in
-    let load = c .before .before .before .before .before .before .before .before .before .before .before .before .before .before .before .before .before .before .before .before .before .before .before .before .before .before .before .before .before .before .before .before .before .before .before .before .before .before .before .before .load in
-    let a = c .before .before .before .before .before .before .before .before .before .before .before .before .before .before .before .before .before .before .before .before .before .before .before .before .before .before .before .before .before .before .before .before .before .before .before .before .before .before .before .before .before .before .before .before .before .before .before .before .before .before .before .before .before .before .before .before .before .before .before .args in
+    let tabled = c .before .before .before .before .before .before .before .before .before .before .before .before .before .before .before .before .before .before in
+    let matched = tabled .before .before .before .before .before .before .before .before .before .before in
+    let stages = matched .before .before .before in
+    let diagrams = stages .before .before in
+    let look = diagrams .before .before in
+    let pairs = look .before .before in
+    let loaded = pairs .before .before .before in
+    let test = loaded .before .before .before .before .before .before in
+    let load = loaded .load in
+    let table = tabled .report-table in
+    let told = ap answerOf (matched .enum-told .given .1) in
+    let a = test .before .before .before .before .before .before .before .before .before .before .before .before .before .args in
     let l : Lent = lent (a .out .now) (a .table .now) (a .pairs .now) (a .look .now) (a .diagrams .now) (a .stages .now) (a .rows .now) (a .marks .now) (a .setting .now) in
-    let long : short? l ≡ false = sym (c .before .before .before .before .before .before .before .before .before .before .before .before .before .before .before .before .before .before .before .before .before .before .before .before .before .before .before .before .before .before .before .before .before .before .before .before .before .before .before .before .before .before .before .before .before .before .before .is-short .ensures) ∙ c .before .before .before .before .before .before .before .before .before .before .before .before .before .before .before .before .before .before .before .before .before .before .before .before .before .before .before .before .before .before .before .before .before .before .before .before .before .before .before .before .before .before .before .before .before .before .if1 .left in
-    let bounds = long-enough (length (a .out .now)) (length (a .rows .now)) (length (a .marks .now)) (length (a .setting .now)) long in
-    let table = c .before .before .before .before .before .before .before .before .before .before .before .before .before .before .before .before .before .before .report-table in (
-      accepted-report (a .left .now) (a .right .now) l long (answerOf (load .result)) (load .ensures .0) (load .last .1 .1 .0) (load .ensures .1 .0) _ (ap answerOf told) _ _ _ (table .result)
+    let long : short? l ≡ false = sym (test .before .is-short .ensures) ∙ test .if1 .left in
+    let bounds = long-enough (length (a .out .now)) (length (a .rows .now)) (length (a .marks .now)) (length (a .setting .now)) long in (
+      accepted-report (a .left .now) (a .right .now) l long (answerOf (load .result)) (load .ensures .0) (load .last .1 .1 .0) (load .ensures .1 .0) _ told _ _ _ (table .result)
           (ap (λ (r : CompareRoom). record { table = load .last .1 .1 .0; output = 0; limits = programLimits; room = r; marks = a .marks .now; setting = a .setting .now })
-          (same-room (c .before .before .before .before .before .before .before .before .before .before .before .before .before .before .before .before .before .before .before .before .before .before .before .before .before .before .before .before .before .before .before .before .before .before .before .before .before .pairs .given) (c .before .before .before .before .before .before .before .before .before .before .before .before .before .before .before .before .before .before .before .before .before .before .before .before .before .before .before .before .before .before .before .before .before .before .before .look .given) (c .before .before .before .before .before .before .before .before .before .before .before .before .before .before .before .before .before .before .before .before .before .before .before .before .before .before .before .before .before .before .before .before .before .diagrams .given) (c .before .before .before .before .before .before .before .before .before .before .before .before .before .before .before .before .before .before .before .before .before .before .before .before .before .before .before .before .before .before .before .stages .given) refl))
+          (same-room (pairs .pairs .given) (look .look .given) (diagrams .diagrams .given) (stages .stages .given) refl))
           (table .ensures .0 .stored) (table .ensures .1),
-      (front-stored (bounds .out) (c .before .before .before .before .before .before .before .before .before .before .before .before .before .before .before .before .before .out2 .given) (table .ensures .0), λ h. clash (works-accepted (a .left .now) (a .right .now) l long _ (sym (load .ensures .0) ∙ ap answerOf told)) h),
+      (front-stored (bounds .out) (c .before .before .before .before .before .before .before .before .before .before .before .before .before .before .before .before .before .out2 .given) (table .ensures .0), λ h. clash (works-accepted (a .left .now) (a .right .now) l long _ (sym (load .ensures .0) ∙ told)) h),
     )
 
 pub report-pair-spec : {M : Type 1} → statement M

@@ -1,13 +1,15 @@
+-- The line is put into a part of the slice; no loop.
+-- The part is as long as the line can be.
 use Prim.Native.Nat.{_+_, _-_, ℕ}
 use Rattle.compare_model.specs.Said.{saidOf}
-use Rattle.report_pair.proofs.PartLaws.{part-stored, room-short}
 use Rattle.reply_line.specs.Line.{roomFor}
 use Rattle.report.specs.Report.{LINE-ROOM}
+use Rattle.report_pair.proofs.PartLaws.{part-stored, room-short}
+use Rattle.report_pair.proofs.lines.put_line.Statement.{statement}
+use Rattle.report_pair.proofs.lines.put_line.Tie as tie
 use borrow.Author.Needs.{needs}
 use lib.ListN.{length}
 use native.Mathlib.Omega.{arith}
-use Rattle.report_pair.proofs.lines.put_line.Statement.{statement}
-use Rattle.report_pair.proofs.lines.put_line.Tie as tie
 
 add-end : tie.Need-add-end
 add-end c = search needs

@@ -1,13 +1,15 @@
+-- A comparison, and its line; no loop.
+-- What the comparison left is what the next one is given, and the line of its reply is its line.
 use Rattle.compare_model.specs.Compare.{Given}
 use Rattle.report_pair.proofs.ComparedLaws.{compared-next, compared-stored, same-room}
+use Rattle.report_pair.proofs.lines.report_output.Statement.{statement}
+use Rattle.report_pair.proofs.lines.report_output.Tie as tie
 use Rattle.report_pair.specs.code.Slices.{asked}
 use Rattle.table.specs.Table.{inputsOf}
 use borrow.Author.Needs.{needs}
 use lib.Seq.{length-take-le}
 use mathlib.Core.Path.{sym}
 use native.Mathlib.Omega.{arith}
-use Rattle.report_pair.proofs.lines.report_output.Statement.{statement}
-use Rattle.report_pair.proofs.lines.report_output.Tie as tie
 
 slice-read-inputs : tie.Need-slice-read-inputs
 slice-read-inputs c = search needs
@@ -20,27 +22,29 @@ compare-requires c κs = search needs
 
 slice-reshare-prefix-put-line : tie.Need-slice-reshare-prefix-put-line
 slice-reshare-prefix-put-line c =
-    let start = c .before .before .before .before .before .before .before .before .before .before .before .before .before .before .before .before .before .before .before .before .before .before .before .before .before .before .before .before .before .before .before .before .before .before .before .before in
-    let a = start .args in
-    let formed = start .pre .0 .accepted .formed in
-    let setting = c .before .before .setting .given in
-    omega (arith, formed .inputs, start .pre .0 .room, setting)
+    let setting = c .before .before in
+    let start = setting .before .before .before .before .before .before .before .before .before .before .before .before .before .before .before .before .before .before .before .before .before .before .before .before .before .before .before .before .before .before .before .before .before .before in
+    omega (arith, start .pre .0 .accepted .formed .inputs, start .pre .0 .room, setting .setting .given)
 
 slice-aggregate-put-line : tie.Need-slice-aggregate-put-line
 slice-aggregate-put-line c =
-    let start = c .before .before .before .before .before .before .before .before .before .before .before .before .before .before .before .before .before .before .before .before .before .before .before .before .before .before .before .before .before .before .before .before .before .before .before .before .before in
-    let a = start .args in
-    let formed = start .pre .0 .accepted .formed in
-    let setting = c .before .before .before .setting .given in
-    sym (length-take-le (inputsOf (a .table .now)) (c .before .before .before .before .before .before .before .before .before .before .before .before .before .before .before .before .before .before .compare .last .1 .1 .1 .1 .1 .1 .1 .1 .1 .0) (omega (arith, formed .inputs, start .pre .0 .room, setting)))
+    let setting = c .before .before .before in
+    let call = setting .before .before .before .before .before .before .before .before .before .before .before .before .before .before .before in
+    let start = call .before .before .before .before .before .before .before .before .before .before .before .before .before .before .before .before .before .before .before in
+    sym
+    (length-take-le (inputsOf (start .args .table .now)) (call .compare .last .1 .1 .1 .1 .1 .1 .1 .1 .1 .0)
+    (omega (arith, start .pre .0 .accepted .formed .inputs, start .pre .0 .room, setting .setting .given)))
 
 put-line-requires : tie.Need-put-line-requires
 put-line-requires c κs =
-    let start = c .before .before .before .before .before .before .before .before .before .before .before .before .before .before .before .before .before .before .before .before .before .before .before .before .before .before .before .before .before .before .before .before .before .before .before .before .before in
-    let a = start .args in
-    let formed = start .pre .0 .accepted .formed in
-    let setting = c .before .before .before .setting .given in
-    omega (arith, length-take-le (inputsOf (a .table .now)) (c .before .before .before .before .before .before .before .before .before .before .before .before .before .before .before .before .before .before .compare .last .1 .1 .1 .1 .1 .1 .1 .1 .1 .0) (omega (arith, formed .inputs, start .pre .0 .room, setting)), formed .inputs, start .pre .1)
+    let setting = c .before .before .before in
+    let call = setting .before .before .before .before .before .before .before .before .before .before .before .before .before .before .before in
+    let start = call .before .before .before .before .before .before .before .before .before .before .before .before .before .before .before .before .before .before .before in
+    let within = start .pre .0 .accepted .formed .inputs in
+    let front =
+    length-take-le (inputsOf (start .args .table .now)) (call .compare .last .1 .1 .1 .1 .1 .1 .1 .1 .1 .0)
+    (omega (arith, within, start .pre .0 .room, setting .setting .given)) in
+    omega (arith, front, within, start .pre .1)
 
 same-length : tie.Need-same-length
 same-length c = search needs
@@ -71,18 +75,25 @@ same-length-9 c = search needs
 
 returns : tie.Need-returns
 returns c =
-    let start = c .before .before .before .before .before .before .before .before .before .before .before .before .before .before .before .before .before .before .before .before .before .before .before .before .before .before .before .before .before .before .before .before .before .before .before .before .before .before .before .before in
-    let call = c .before .before .before .before .before .before .before .before .before .before .before .before .before .before .before .before .before .before .before .before .before .compare in
+    let setting = c .before .before .before .before .before .before in
+    let rows = setting .before .before .before .before in
+    let stages = rows .before .before in
+    let diagrams = stages .before .before in
+    let look = diagrams .before .before in
+    let pairs = look .before .before in
+    let made = pairs .before .before .before in
+    let start = made .before .before .before .before .before .before .before .before .before .before .before .before .before .before .before .before .before .before .before in
+    let call = made .compare in
     let a = start .args in
     let g : Given = asked (a .table .now) (a .output) (a .pairs .now) (a .look .now) (a .diagrams .now) (a .stages .now) (a .rows .now) (a .marks .now) (a .setting .now) in
-    let formed = start .pre .0 .accepted .formed in
-    let table = call .last .0 in
-    let marks = call .last .1 .1 .1 .1 .1 .1 .1 .1 .0 in
-    let setting = call .last .1 .1 .1 .1 .1 .1 .1 .1 .1 .0 in (
-      compared-stored g (call .result) table marks setting (call .ensures .0) (formed .inputs) (omega (arith, formed .inputs, start .pre .0 .room, c .before .before .before .before .before .before .setting .given))
+    let within = start .pre .0 .accepted .formed .inputs in
+    let table-left = call .last .0 in
+    let marks-left = call .last .1 .1 .1 .1 .1 .1 .1 .1 .0 in
+    let setting-left = call .last .1 .1 .1 .1 .1 .1 .1 .1 .1 .0 in (
+      compared-stored g (call .result) table-left marks-left setting-left (call .ensures .0) within (omega (arith, within, start .pre .0 .room, setting .setting .given))
           (c .before .before .put-line .ensures),
-      compared-next g (call .result) table marks setting (call .ensures .0) _
-          (same-room (c .before .before .before .before .before .before .before .before .before .before .before .before .before .before .before .before .before .before .pairs .given) (c .before .before .before .before .before .before .before .before .before .before .before .before .before .before .before .before .look .given) (c .before .before .before .before .before .before .before .before .before .before .before .before .before .before .diagrams .given) (c .before .before .before .before .before .before .before .before .before .before .before .before .stages .given) (c .before .before .before .before .before .before .before .before .before .before .rows .given)),
+      compared-next g (call .result) table-left marks-left setting-left (call .ensures .0) _
+          (same-room (pairs .pairs .given) (look .look .given) (diagrams .diagrams .given) (stages .stages .given) (rows .rows .given)),
     )
 
 pub report-output-spec : {M : Type 1} → statement M

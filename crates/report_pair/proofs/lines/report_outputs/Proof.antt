@@ -23,36 +23,46 @@ loop-holds c = (printing-none _ _ _ refl, omega arith)
 
 report-output-requires : tie.Need-report-output-requires Inv-loop μ-loop
 report-output-requires c κs =
-    let turn = c .before .before .before .before .before .before .before .before .before .loop-test .taken in
-    let loop = c .before .before .before .before .before .before .before .before .before .before .loop in
-    let start = c .before .before .before .before .before .before .before .before .before .before .before .before .before .before .before .before .before .before .before .before in
+    let test = c .before .before .before .before .before .before .before .before .before in
+    let start = test .before .before .before .before .before .before .before .before .before .before .before in
+    let turn = test .loop-test .taken in
+    let p = test .before .loop .inv .0 in
     let n = start .args .outputs in
-    (here-ready (loop .inv .0) n turn (start .pre .1 .1) (start .pre .0), line-room (loop .inv .0) n turn (start .pre .1 .1))
+    (here-ready p n turn (start .pre .1 .1) (start .pre .0), line-room p n turn (start .pre .1 .1))
 
 add-output : tie.Need-add-output Inv-loop μ-loop
 add-output c =
-    let start = c .before .before .before .before .before .before .before .before .before .before .before .before .before .before .before .before .before .before .before .before .before .before .before .before .before .before .before .before .before .before .before .before .before .before .before .before .before .before .before in
-    omega (arith, c .before .before .before .before .before .before .before .before .before .before .before .before .before .before .before .before .before .before .before .before .before .before .before .before .before .before .before .before .loop-test .taken, start .pre .0 .accepted .formed .outputs, start .pre .1 .0)
+    let test = c .before .before .before .before .before .before .before .before .before .before .before .before .before .before .before .before .before .before .before .before .before .before .before .before .before .before .before .before in
+    let start = test .before .before .before .before .before .before .before .before .before .before .before in
+    omega (arith, test .loop-test .taken, start .pre .0 .accepted .formed .outputs, start .pre .1 .0)
 
 loop-less : tie.Need-loop-less Inv-loop μ-loop
 loop-less c = omega (arith, c .before .before .before .before .before .before .before .before .before .before .before .before .before .before .before .before .before .before .before .before .before .before .before .before .before .before .before .before .loop-test .taken)
 
 loop-again : tie.Need-loop-again Inv-loop μ-loop
 loop-again c =
-    let line = c .before .before .before .before .before .before .before .before .before .before .before .before .before .before .before .before .before .before .report-output in
-    let turn = c .before .before .before .before .before .before .before .before .before .before .before .before .before .before .before .before .before .before .before .before .before .before .before .before .before .before .before .before .loop-test .taken in
-    let p = c .before .before .before .before .before .before .before .before .before .before .before .before .before .before .before .before .before .before .before .before .before .before .before .before .before .before .before .before .before .loop .inv .0 in
-    let start = c .before .before .before .before .before .before .before .before .before .before .before .before .before .before .before .before .before .before .before .before .before .before .before .before .before .before .before .before .before .before .before .before .before .before .before .before .before .before .before in (
-      printing-more p (start .args .outputs) turn (start .pre .1 .1) (line .ensures .1)
+    let setting = c .before in
+    let marks = setting .before .before in
+    let rows = marks .before .before in
+    let stages = rows .before .before in
+    let diagrams = stages .before .before in
+    let look = diagrams .before .before in
+    let pairs = look .before .before in
+    let table = pairs .before .before in
+    let made = table .before .before .before in
+    let test = made .before .before .before .before .before .before .before .before .before .before in
+    let start = test .before .before .before .before .before .before .before .before .before .before .before in
+    let line = made .report-output .ensures in
+    let turn = test .loop-test .taken in
+    let p = test .before .loop .inv .0 in (
+      printing-more p (start .args .outputs) turn (start .pre .1 .1) (line .1)
           (record {
-            room =
-                same-room (c .before .before .before .before .before .before .before .before .before .before .before .before .before .pairs .given) (c .before .before .before .before .before .before .before .before .before .before .before .look .given) (c .before .before .before .before .before .before .before .before .before .diagrams .given) (c .before .before .before .before .before .before .before .stages .given) (c .before .before .before .before .before .rows .given)
-                ∙ p .same .room;
-            table = c .before .before .before .before .before .before .before .before .before .before .before .before .before .before .before .table .given ∙ p .same .table;
-            marks = c .before .before .before .marks .given ∙ p .same .marks;
-            setting = c .before .setting .given ∙ p .same .setting;
+            room = same-room (pairs .pairs .given) (look .look .given) (diagrams .diagrams .given) (stages .stages .given) (rows .rows .given) ∙ p .same .room;
+            table = table .table .given ∙ p .same .table;
+            marks = marks .marks .given ∙ p .same .marks;
+            setting = setting .setting .given ∙ p .same .setting;
           })
-          (line .ensures .0),
+          (line .0),
       omega (arith, turn),
     )
 

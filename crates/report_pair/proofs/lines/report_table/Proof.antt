@@ -1,12 +1,12 @@
 -- The head line, and the lines after it; no loop.
 -- Each is stored where there is room for it.
 use Rattle.report_pair.proofs.ReportLaws.{head-and-lines, head-stored}
+use Rattle.report_pair.proofs.lines.report_table.Statement.{statement}
+use Rattle.report_pair.proofs.lines.report_table.Tie as tie
 use Rattle.table.specs.Table.{outputsOf}
 use borrow.Author.Needs.{needs}
 use mathlib.Core.Path.{refl}
 use native.Mathlib.Omega.{arith}
-use Rattle.report_pair.proofs.lines.report_table.Statement.{statement}
-use Rattle.report_pair.proofs.lines.report_table.Tie as tie
 
 write-head-requires : tie.Need-write-head-requires
 write-head-requires c κs = search needs
