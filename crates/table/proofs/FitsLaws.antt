@@ -1,6 +1,6 @@
--- Demand 1 for a table: one that keeps the paper's rules is not refused.
+-- Demand 1 for a table: one that keeps the paper's rules is not refused, and no other passes.
 use Prim.Native.Nat.{_*_, _+_, _<_, ℕ}
-use Rattle.table.proofs.AcceptedLaws.{accepts}
+use Rattle.table.proofs.AcceptedLaws.{accepted, accepts, row-words-below}
 use Rattle.table.proofs.LayoutLaws.{length-output-words, length-rows, output-word-at, row-at}
 use Rattle.table.specs.Accepted.{Accepted, RowBelow}
 use Rattle.table.specs.Fits.{Fits}
@@ -36,3 +36,19 @@ fits-accepted ws h =
 -- Neither 10 nor 11 applies to it.
 pub fits-passes : (ws : List ℕ) → Fits ws → firstRefusal 0 (tableTests ws) ≡ 0
 fits-passes ws h = accepts ws (fits-accepted ws h)
+
+-- Words to which neither 10 nor 11 applies keep the rules.
+pub passed-fits : (ws : List ℕ) → firstRefusal 0 (tableTests ws) ≡ 0 → Fits ws
+passed-fits ws e =
+    let h = accepted ws e in
+    record {
+      header = h .formed .header;
+      inputs = h .formed .inputs;
+      made = h .formed .made;
+      some-output = h .formed .some-output;
+      outputs = h .formed .outputs;
+      whole = h .formed .whole;
+      firsts = λ i l. row-words-below h i l .first;
+      seconds = λ i l. row-words-below h i l .second;
+      references = λ k l. rw (← output-word-at ws k l) (h .references k (omega (arith, length-output-words ws (h .formed .whole))));
+    }
