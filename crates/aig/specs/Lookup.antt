@@ -37,12 +37,13 @@ abbrev pub orHere : Found → Bool → ℕ → Found
 orHere (At u) b v = At u
 orHere Nothing b v = cond b (At v) Nothing
 
--- "Found: the pair already has a vertex." The first vertex below a count whose words are p and q, or none.
+-- "Found: the pair already has a vertex." The first vertex below a count whose words are p and q, or none. (RULES 3.5)
 unfoldable pub firstVertex : List ℕ → ℕ → ℕ → ℕ → Found
 firstVertex pairs p q zero = Nothing
 firstVertex pairs p q (suc n) = orHere (firstVertex pairs p q n) (hasPair pairs n p q) n
 
--- "A pair's first place in the look-up is a wrapping 32-bit sum of its references, reduced to the look-up's length; the search goes on from there."
+-- "A pair's first place in the look-up is a wrapping 32-bit sum of its references, reduced to the look-up's length; the search
+-- goes on from there." (RULES 3.7)
 unfoldable pub firstPlace : ℕ → ℕ → ℕ → ℕ
 firstPlace places p q = (p + q) % 2 ^ 32 % places
 

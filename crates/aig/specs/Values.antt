@@ -7,7 +7,7 @@ use mathlib.Core.List.{List}
 use mathlib.Core.Path.{_≡_}
 
 module _ {A : Type 0} (invert : A → A) (both : A → A → A) (falsum : A) where
-  -- The value of a literal, given the values of the vertices in the order of their numbers.
+  -- The value of a literal, given the values of the vertices in the order of their numbers. (RULES 1.10)
   abbrev pub literalValue : List A → ℕ → A
   literalValue vs r = cond (inverted? r) (invert (getD vs (vertexOf r) falsum)) (getD vs (vertexOf r) falsum)
 

@@ -8,7 +8,7 @@ use mathlib.Core.List.{List, [], _∷_}
 use mathlib.Core.Logic.{_≢_}
 use mathlib.Core.Path.{_≡_}
 
--- A reference is twice a row, "plus 1 if inverted". The reference c, inverted once more where r is inverted.
+-- A reference is twice a row, "plus 1 if inverted". The reference c, inverted once more where r is inverted. (RULES 1.7)
 unfoldable pub edge : ℕ → ℕ → ℕ
 edge c r = c / 2 * 2 + (c + r) % 2
 
@@ -25,7 +25,7 @@ unfoldable pub denote : List ℕ → ℕ → ℕ → Truth
 denote rows zero r = leaf (eqb (r % 2) 1)
 denote rows (suc m) r = node (denote rows m (cofactor rows false (suc m) r)) (denote rows m (cofactor rows true (suc m) r))
 
--- "each row is one distinct part": the function of row i, of its own level's inputs.
+-- "each row is one distinct part": the function of row i, of its own level's inputs. (RULES 6.7)
 unfoldable pub rowFunction : List ℕ → ℕ → Truth
 rowFunction rows i = denote rows (levelAt rows i) (i * 2)
 
@@ -42,7 +42,7 @@ pub record Row (rows : List ℕ) (i : ℕ) : Type 0 where
   pub plain : lowAt rows i % 2 ≡ 0
   pub differ : lowAt rows i ≢ highAt rows i
 
--- "Diagrams are shared and reduced": rows 1 to n are reduced and ordered, and no row stands twice.
+-- "Diagrams are shared and reduced": rows 1 to n are reduced and ordered, and no row stands twice. (RULES 6.7)
 pub record Canonical (rows : List ℕ) (n : ℕ) : Type 0 where
   pub row : (i : ℕ) → 1 ≤ i → i ≤ n → Row rows i
   pub once : (i j : ℕ) → 1 ≤ i → i ≤ n → 1 ≤ j → j ≤ n

@@ -8,7 +8,7 @@ use mathlib.Core.Bool.{cond, false}
 use mathlib.Core.List.{List, [], _∷_}
 use mathlib.Core.Path.{_≡_}
 
--- "one byte an input, 48 or 49".
+-- "one byte an input, 48 or 49". (RULES 7.2)
 unfoldable pub digits : Setting → List ℕ
 digits [] = []
 digits (x ∷ s) = cond x 49 48 ∷ digits s

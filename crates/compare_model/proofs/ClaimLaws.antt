@@ -1,4 +1,4 @@
--- Each reply of a comparison that is not refused keeps what the paper says of it: a law for each verdict of the sweep, and one for the marks.
+-- Each reply of a comparison that is not refused keeps what the rules say of it: a law for each verdict of the sweep, and one for the marks.
 use Prim.Native.Nat.{ℕ}
 use Rattle.compare_model.proofs.RefusalLaws.{compared-answered}
 use Rattle.compare_model.proofs.ReplyLaws.{different-replied, equal-replied, idle-unsaid, marks-replied, rows-replied, rows-short, size-replied, steps-replied, steps-short, steps-spent}
@@ -81,7 +81,7 @@ module _ (g : Given) (h : refusalOf g ≡ 0) {loaded : List ℕ} (s : Since load
   verdict-says (undecided (Steps v)) k = steps-says v k
   verdict-says (undecided Idle) k = absurd (idle-unsaid g h s k)
 
-  -- Each reply keeps what the paper says of it,
+  -- Each reply keeps what the rules say of it,
   pub reply-says : ReplySays loaded g (compared g) (compared g .reply)
   reply-says = rw (compared-answered g h) (verdict-says (answerTo g .verdict) refl)
 

@@ -1,5 +1,5 @@
--- What the paper says of the reply of a comparison that is not refused, in terms of the table as loaded, what the comparison was given
--- and what it left.
+-- What the rules say of the reply of a comparison that is not refused, in terms of the table as loaded, what the comparison was given
+-- and what it left. (RULES 7.2 to 7.10, 12.2)
 use Prim.Native.Nat.{_<_, _≤_, ℕ}
 use Rattle.compare_model.specs.Compare.{Given, Left, graphWords, overFront, problemOf, settingBytes}
 use Rattle.compare_model.specs.Said.{Named, Said}
@@ -15,24 +15,24 @@ use mathlib.Core.Logic.{_↔_, _≢_}
 use mathlib.Core.Path.{_≡_}
 
 -- "a vertex's function and operands are those of the table as loaded, and limits are those that the comparison in question was given":
--- the problem of a comparison, by a table.
+-- the problem of a comparison, by a table. (RULES 12.4)
 abbrev pub problemBy : List ℕ → Given → Problem
 problemBy table given = problemOf table (given .output) (given .limits)
 
--- "Rows reported = distinct parts of the functions marked 1."
+-- "Rows reported = distinct parts of the functions marked 1." (RULES 7.5)
 abbrev pub RowsKept : List ℕ → Given → Left → ℕ → Type 0
 RowsKept loaded given left rows = rows ≡ rowsMarked (problemBy loaded given) (left .marks)
 
--- "After Equal, Different and Size, steps = the sum over ANDs marked 1 or 2."
+-- "After Equal, Different and Size, steps = the sum over ANDs marked 1 or 2." (RULES 7.6)
 abbrev pub StepsKept : List ℕ → Given → Left → ℕ → Type 0
 StepsKept loaded given left steps = steps ≡ stepsMarked (problemBy loaded given) (graphWords loaded) (left .marks)
 
--- "Equal is said only where two outputs agree on every setting": output k of a table's two sides.
+-- "Equal is said only where two outputs agree on every setting": output k of a table's two sides. (RULES 12.2)
 abbrev pub Agrees : List ℕ → ℕ → Type 0
 Agrees table k = (s : Setting) → length s ≡ inputsOf table → outputValue (graphOf table) 1 k s ≡ outputValue (graphOf table) 2 k s
 
 -- "Different only with the first setting, in counting order, on which they disagree.": "one byte an input .. to the front of the lent
--- setting slice and no others".
+-- setting slice and no others". (RULES 7.2, 12.2)
 pub record Differs (table : List ℕ) (k : ℕ) (before after : List ℕ) : Type 0 where
   pub setting : Setting
   pub digits : length setting ≡ inputsOf table
@@ -42,7 +42,7 @@ pub record Differs (table : List ℕ) (k : ℕ) (before after : List ℕ) : Type
       → outputValue (graphOf table) 1 k s ≡ outputValue (graphOf table) 2 k s
 
 -- "Marks, one byte a vertex": "0 .. (and the constant); 1 swept, or an input given its row; 2 product ended and too large; 3 the vertex named
--- by Rows or Steps." Of every reply: an AND marked 1 is not larger than the size limit, and "every vertex marked 2 is larger".
+-- by Rows or Steps." Of every reply: an AND marked 1 is not larger than the size limit, and "every vertex marked 2 is larger". (RULES 7.4, 7.9)
 pub record MarksKept (p : Problem) (marks : List ℕ) (said : Said) : Type 0 where
   pub known : (v : ℕ) → v < length (p .functions) → getD marks v 0 ≤ 3
   pub constant : getD marks 0 0 ≡ 0
@@ -51,7 +51,7 @@ pub record MarksKept (p : Problem) (marks : List ℕ) (said : Said) : Type 0 whe
   pub named : (v : ℕ) → Named said v ↔ ((v < length (p .functions)) × (getD marks v 0 ≡ 3))
 
 -- "After Size, some vertex is marked 2": an AND. "After Size and Idle, every input is marked 1, and every AND marked 0 ..", the operands by the
--- rows as left.
+-- rows as left. (RULES 7.9, 7.10)
 pub record AfterSize (p : Problem) (marks rows : List ℕ) : Type 0 where
   pub vertex : ℕ
   pub made : p .first ≤ vertex
@@ -59,16 +59,16 @@ pub record AfterSize (p : Problem) (marks rows : List ℕ) : Type 0 where
   pub mark : getD marks vertex 0 ≡ 2
   pub at-rest : AtRest (p .first) (length (p .functions)) marks rows rows
 
--- "After Rows, the functions marked 1 or 3 have more parts than the row limit."
+-- "After Rows, the functions marked 1 or 3 have more parts than the row limit." (RULES 7.8)
 abbrev pub AfterRows : Problem → List ℕ → Type 0
 AfterRows p marks = p .limits .rows < rowsMarkedWithLast p marks
 
--- "After Steps, .. the sum with the vertex marked 3 exceeds [the limit].", the operands by the entry rows.
+-- "After Steps, .. the sum with the vertex marked 3 exceeds [the limit].", the operands by the entry rows. (RULES 7.7)
 abbrev pub AfterSteps : Problem → List ℕ → List ℕ → Type 0
 AfterSteps p entry marks = p .limits .steps < stepsMarkedWithLast p entry marks
 
 -- What is said of each reply of a comparison that is not refused, beside its marks. "After Steps, steps = the limit". It says no refusal, and
--- never Idle.
+-- never Idle. (RULES 7.7)
 abbrev pub ReplySays : List ℕ → Given → Left → Said → Type 0
 ReplySays loaded given left (Said.refused n) = ⊥
 ReplySays loaded given left (Said.equal rows steps) =

@@ -37,7 +37,7 @@ pub record Left : Type 0 where
   pub marks : List ℕ
   pub setting : List ℕ
 
--- "outside 1 to 32,768", "outside 1 to 4,294,967,295"
+-- "outside 1 to 32,768", "outside 1 to 4,294,967,295" (RULES 2.4, 8.1)
 abbrev pub maxRows : ℕ
 maxRows = 32768
 
@@ -47,22 +47,22 @@ maxSteps = 4294967295
 unfoldable pub outside? : ℕ → ℕ → Bool
 outside? most n = not (leb 1 n) || ltb most n
 
--- "13. The size or row limit is outside 1 to 32,768, or the step limit outside 1 to 4,294,967,295."
+-- "13. The size or row limit is outside 1 to 32,768, or the step limit outside 1 to 4,294,967,295." (RULES 8.1)
 unfoldable pub beyond? : Limits → Bool
 beyond? l = outside? maxRows (l .size) || outside? maxRows (l .rows) || outside? maxSteps (l .steps)
 
--- "2 words a vertex"
+-- "2 words a vertex" (RULES 8.2)
 abbrev pub sliceWords : ℕ → ℕ
 sliceWords vertices = 2 * vertices
 
--- "14. A working slice is short: four slices of 2 words a vertex .., compare also 4 words a row of the limit and the marks"
+-- "14. A working slice is short: four slices of 2 words a vertex .., compare also 4 words a row of the limit and the marks" (RULES 8.1, 8.2)
 unfoldable pub shortSlice? : ℕ → ℕ → CompareRoom → ℕ → Bool
 shortSlice? vertices rows r marks =
     ltb (r .pairs) (sliceWords vertices) || ltb (r .look) (sliceWords vertices) || ltb (r .diagrams) (sliceWords vertices)
     || ltb (r .stages) (sliceWords vertices) || ltb (r .rows) (4 * rows) || ltb marks vertices
 
 -- "12. .. the output number is too high.", "15. The setting slice is shorter than the inputs.": the tests after those of the table, by
--- the lengths of the slices, the marks and the setting.
+-- the lengths of the slices, the marks and the setting. (RULES 8.1)
 abbrev pub callTests : List ℕ → ℕ → Limits → CompareRoom → ℕ → ℕ → List (Test ℕ)
 callTests table output limits room marks setting =
     record { answer = 12; applies = leb (outputsOf table) output }
@@ -71,7 +71,7 @@ callTests table output limits room marks setting =
     ∷ record { answer = 15; applies = ltb setting (inputsOf table) }
     ∷ []
 
--- "Compare uses 10 to 15 .., each in rising order."
+-- "Compare uses 10 to 15 .., each in rising order." (RULES 9.3)
 abbrev pub compareTests : Given → List (Test ℕ)
 compareTests g =
     tableTests (g .table) ++ callTests (g .table) (g .output) (g .limits) (g .room) (length (g .marks)) (length (g .setting))
@@ -102,31 +102,31 @@ answerTo g = sweep (problemOf (g .table) (g .output) (g .limits)) (graphWords (g
 abbrev pub overFront : List ℕ → List ℕ → List ℕ
 overFront new old = new ++ drop (length new) old
 
--- The outputs of both sides, each "replaced by what [its vertex was] merged into".
+-- The outputs of both sides, each "replaced by what [its vertex was] merged into". (RULES 6.1)
 unfoldable pub outputsLeft : List ℕ → List ℕ → List ℕ
 outputsLeft table rows = map (resolve rows) (outputWords table)
 
--- The table with the rows that the sweep left, and these outputs; its header and the words after it stay.
+-- The table with the rows that the sweep left, and these outputs; its header and the words after it stay. (RULES 12.5)
 unfoldable pub tableLeft : List ℕ → List ℕ → List ℕ
 tableLeft table rows = overFront (take 3 table ++ (drop (2 * (1 + inputsOf table)) rows ++ outputsLeft table rows)) table
 
--- "one byte an input, 48 or 49"
+-- "one byte an input, 48 or 49" (RULES 7.2)
 unfoldable pub settingBytes : Setting → List ℕ
 settingBytes s = map (λ x. cond x 49 48) s
 
--- "A Different writes one byte an input .. to the front of the lent setting slice and no others; other replies leave it unchanged."
+-- "A Different writes one byte an input .. to the front of the lent setting slice and no others; other replies leave it unchanged." (RULES 7.2)
 unfoldable pub settingLeft : Verdict → List ℕ → List ℕ
 settingLeft equal old = old
 settingLeft (different s) old = overFront (settingBytes s) old
 settingLeft (undecided c) old = old
 
--- "All carry rows and steps.": what is said at a verdict, with the rows in use and the steps taken.
+-- "All carry rows and steps.": what is said at a verdict, with the rows in use and the steps taken. (RULES 7.3)
 unfoldable pub saidBy : Verdict → ℕ → ℕ → Said
 saidBy equal rows steps = Said.equal rows steps
 saidBy (different s) rows steps = Said.different rows steps
 saidBy (undecided x) rows steps = undecidedBy x rows steps
 
--- What a comparison that is not refused leaves: "Marks, one byte a vertex, all written at a reply, later bytes unchanged".
+-- What a comparison that is not refused leaves: "Marks, one byte a vertex, all written at a reply, later bytes unchanged". (RULES 7.4)
 unfoldable pub answered : Given → Result → Left
 answered g a =
     record {
@@ -136,10 +136,10 @@ answered g a =
       setting = settingLeft (a .verdict) (g .setting);
     }
 
--- "refusals leaving all of them unchanged"
+-- "refusals leaving all of them unchanged" (RULES 8.3)
 unfoldable pub turnedBack : Given → ℕ → Left
 turnedBack g n = record { reply = Said.refused n; table = g .table; marks = g .marks; setting = g .setting }
 
--- A comparison: the first refusal that applies, or the sweep's reply.
+-- A comparison: the first refusal that applies, or the sweep's reply. (RULES 8.1, 12.1)
 unfoldable pub compared : Given → Left
 compared g = let answer = answered g (answerTo g) in cond (eqb (refusalOf g) 0) answer (turnedBack g (refusalOf g))

@@ -1,16 +1,16 @@
--- Demand 1 for a comparison: what a good call is given, word by word and with the paper's own numbers.
+-- Demand 1 for a comparison: what a good call is given, word by word and with the rules' own numbers. (RULES 12.1)
 use Prim.Native.Nat.{_*_, _+_, _<_, _≤_, ℕ}
 use Rattle.compare_model.specs.Compare.{Given}
 use Rattle.compare_model.specs.Said.{Said}
 use Rattle.table.specs.Fits.{Fits, word}
 use lib.ListN.{length}
 
--- "Vertex 0 is constant false, vertices 1 to inputs are the inputs", made vertices follow: how many there are, by the table.
+-- "Vertex 0 is constant false, vertices 1 to inputs are the inputs", made vertices follow: how many there are, by the table. (RULES 1.6, 4.3)
 abbrev pub vertexCount : Given → ℕ
 vertexCount g = 1 + word (g .table) 0 + word (g .table) 1
 
 -- The table keeps its rules; the output is one of them; "1 to 32,768" for the size and the row limit, "1 to 4,294,967,295" for the step
--- limit; "four slices of 2 words a vertex", "4 words a row of the limit and the marks", one byte a vertex; a byte an input.
+-- limit; "four slices of 2 words a vertex", "4 words a row of the limit and the marks", one byte a vertex; a byte an input. (RULES 2.4, 8.1, 8.2)
 pub record Good (g : Given) : Type 0 where
   pub table : Fits (g .table)
   pub output : g .output < word (g .table) 2
@@ -28,7 +28,7 @@ pub record Good (g : Given) : Type 0 where
   pub marks : vertexCount g ≤ length (g .marks)
   pub setting : word (g .table) 0 ≤ length (g .setting)
 
--- "Replies: Equal; Different; Undecided by Size ..; by Rows ..; by Steps ..; Idle": what is said is no refusal.
+-- "Replies: Equal; Different; Undecided by Size ..; by Rows ..; by Steps ..; Idle": what is said is no refusal. (RULES 7.3)
 pub data Answers : Said → Type 0 where
   says-equal : {rows steps : ℕ} → Answers (Said.equal rows steps)
   says-different : {rows steps : ℕ} → Answers (Said.different rows steps)

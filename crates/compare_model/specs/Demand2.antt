@@ -1,4 +1,4 @@
--- Demand 2, of every table that neither 10 nor 11 turns back, whether a load made it or not.
+-- Demand 2, of every table that neither 10 nor 11 turns back, whether a load made it or not. (RULES 8.1, 12.2)
 use Prim.Native.Nat.{_<_, ℕ}
 use Rattle.compare_model.specs.Claims.{Agrees, Differs}
 use Rattle.compare_model.specs.Compare.{Given, Left, compared, refusalOf}
@@ -9,7 +9,7 @@ use lib.ListN.{length}
 use mathlib.Core.Path.{_≡_}
 
 -- "Equal is said only where two outputs agree on every setting, Different only with the first setting, in counting order, on which they
--- disagree.", and every output keeps its value on every setting.
+-- disagree.", and every output keeps its value on every setting. (RULES 12.2, 12.3)
 pub record Right (g : Given) (left : Left) : Type 0 where
   pub equal : (rows steps : ℕ) → left .reply ≡ Said.equal rows steps → Agrees (g .table) (g .output)
   pub different : (rows steps : ℕ) → left .reply ≡ Said.different rows steps → Differs (g .table) (g .output) (g .setting) (left .setting)

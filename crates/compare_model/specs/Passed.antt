@@ -11,13 +11,13 @@ pub record Within (most n : ℕ) : Type 0 where
   pub some : 1 ≤ n
   pub bounded : n ≤ most
 
--- The limits are within theirs.
+-- The limits are within theirs. (RULES 2.4)
 pub record LimitsWithin (l : Limits) : Type 0 where
   pub size : Within maxRows (l .size)
   pub rows : Within maxRows (l .rows)
   pub steps : Within maxSteps (l .steps)
 
--- The working slices and the marks are long enough.
+-- The working slices and the marks are long enough. (RULES 8.2)
 pub record Enough (vertices rows : ℕ) (r : CompareRoom) (marks : ℕ) : Type 0 where
   pub pairs : sliceWords vertices ≤ r .pairs
   pub look : sliceWords vertices ≤ r .look

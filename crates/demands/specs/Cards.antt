@@ -1,5 +1,5 @@
 -- The bench cards marked P: "shown from the definitions, as a group under a common theorem". Those on replies are here, from the bytes of
--- the files; those on parts and steps and those on loading stand with their definitions.
+-- the files; those on parts and steps and those on loading stand with their definitions. (RULES 13.2)
 use Prim.Native.Nat.{_*_, ℕ}
 use Rattle.compare_model.specs.Compare.{Given, Left, compared}
 use Rattle.compare_model.specs.Said.{Said}
@@ -33,7 +33,7 @@ comparisonOf output limits table =
       setting = replicate (inputsOf table) 0;
     }
 
--- "limits 4,096 unless said"
+-- "limits 4,096 unless said" (RULES 13.1)
 abbrev pub usual : Limits
 usual = record { size = 4096; rows = 4096; steps = 4096 }
 
@@ -42,7 +42,7 @@ abbrev pub firstCompared : List ℕ → List ℕ → Left
 firstCompared left right = compared (comparisonOf 0 usual (loadedTable left right))
 
 -- "`and 2 4` output 6 against `or 3 5` output 7: .. Equal, rows 0, steps 0." "output 2 against 3, one input: Different, setting 0, rows 0."
--- "no inputs, 0 against 1: Different, empty setting."
+-- "no inputs, 0 against 1: Different, empty setting." (RULES 13.2)
 pub record Replying : Type 0 where
   pub and-or-reply : firstCompared andFile orFile .reply ≡ Said.equal 0 0
   pub inverse-reply : firstCompared (outputFile 49 50) (outputFile 49 51) .reply ≡ Said.different 0 0

@@ -1,4 +1,4 @@
--- What the paper claims of a comparison's reply, in terms of the files, the table as loaded, and what the comparison left.
+-- What the rules claim of a comparison's reply, in terms of the files, the table as loaded, and what the comparison left. (RULES 12.3)
 use Prim.Native.Nat.{_<_, ℕ}
 use Rattle.compare_model.specs.Claims.{RowsKept, StepsKept, problemBy}
 use Rattle.compare_model.specs.Compare.{Given, Left, graphWords, refusalOf, settingBytes}
@@ -17,19 +17,19 @@ use mathlib.Core.List.{List, _++_, map}
 use mathlib.Core.Logic.{_≢_}
 use mathlib.Core.Path.{_≡_}
 
--- "its file's value": output k of a side's file on a setting. "Inputs and outputs pair by place".
+-- "its file's value": output k of a side's file on a setting. "Inputs and outputs pair by place". (RULES 1.10, 1.11)
 unfoldable pub sideValue : Netlist → Netlist → ℕ → ℕ → Setting → Bool
 sideValue d e side k s = cond (eqb side 1) (fileValue d k s) (fileValue e k s)
 
--- "AND that the gates stand for": those of both files.
+-- "AND that the gates stand for": those of both files. (RULES 1.9, 12.3)
 unfoldable pub gatesAnds : Netlist → Netlist → List And
 gatesAnds d e = fileAnds d ++ fileAnds e
 
--- "Equal is said only where two outputs agree on every setting"
+-- "Equal is said only where two outputs agree on every setting" (RULES 12.2)
 abbrev pub Agree : Netlist → Netlist → ℕ → Type 0
 Agree d e k = (s : Setting) → length s ≡ d .inputs → fileValue d k s ≡ fileValue e k s
 
--- "Different only with the first setting, in counting order, on which they disagree.", written to the front of the setting slice.
+-- "Different only with the first setting, in counting order, on which they disagree.", written to the front of the setting slice. (RULES 7.2, 12.2)
 pub record Separated (d e : Netlist) (k : ℕ) (before after : List ℕ) : Type 0 where
   pub setting : Setting
   pub digits : length setting ≡ d .inputs
@@ -37,28 +37,28 @@ pub record Separated (d e : Netlist) (k : ℕ) (before after : List ℕ) : Type 
   pub differ : fileValue d k setting ≢ fileValue e k setting
   pub first : (s : Setting) → length s ≡ d .inputs → numberOf s < numberOf setting → fileValue d k s ≡ fileValue e k s
 
--- "some AND that the gates stand for has more parts than the size limit"
+-- "some AND that the gates stand for has more parts than the size limit" (RULES 12.3)
 pub record TooLarge (d e : Netlist) (limit : ℕ) : Type 0 where
   pub place : ℕ
   pub there : place < length (gatesAnds d e)
   pub large : limit < size (andFunction (getD (gatesAnds d e) place (constantly 0 false, constantly 0 false)))
 
--- "all inputs and those ANDs together have more parts than the row limit"
+-- "all inputs and those ANDs together have more parts than the row limit" (RULES 12.3)
 abbrev pub TooManyParts : Netlist → Netlist → ℕ → Type 0
 TooManyParts d e limit = limit < together (inputsFrom (d .inputs) 1 (d .inputs) ++ map andFunction (gatesAnds d e))
 
--- "those ANDs together take more product steps than the step limit"
+-- "those ANDs together take more product steps than the step limit" (RULES 12.3)
 abbrev pub TooManySteps : Netlist → Netlist → ℕ → Type 0
 TooManySteps d e limit = limit < sum (map andSteps (gatesAnds d e))
 
--- "as Idle only under the conditions that document 01 sets after Idle"
+-- "as Idle only under the conditions of 7.10 and 7.11" (RULES 12.3)
 pub record IdleAs (loaded : List ℕ) (given : Given) (left : Left) : Type 0 where
   pub at-rest : AtRest (problemBy loaded given .first) (length (problemBy loaded given .functions)) (left .marks)
       (graphWords (left .table)) (graphWords loaded)
   pub after-idle : AfterIdle (problemBy loaded given) (left .marks)
 
 -- What is said of each reply: "unless it said Rows or Steps; after Steps they are the limit". A refusal is said exactly where one of 10 to 15
--- applies.
+-- applies. (RULES 9.3, 12.3)
 abbrev pub ReplyKept : Netlist → Netlist → List ℕ → Given → Left → Said → Type 0
 ReplyKept d e loaded given left (Said.refused n) =
     (refusalOf given ≡ n) × (n ≢ 0) × (left .table ≡ given .table) × (left .marks ≡ given .marks) × (left .setting ≡ given .setting)

@@ -1,4 +1,4 @@
--- What demand 3 comes to where the limits suffice: every comparison that is not refused decides.
+-- What demand 3 comes to where the limits suffice: every comparison that is not refused decides. (RULES 12.3, 12.7)
 use Prim.Native.Nat.{ℕ}
 use Rattle.compare_model.specs.Compare.{refusalOf}
 use Rattle.compare_model.specs.Said.{Said}
@@ -12,13 +12,13 @@ use Rattle.sweep_model.specs.State.{Limits}
 use mathlib.Core.List.{List}
 use mathlib.Core.Path.{_≡_}
 
--- "demand 3's bound, on pairs whose limits suffice": none of the three bounds that an Undecided needs is passed.
+-- "demand 3's bound, on pairs whose limits suffice": none of the three bounds that an Undecided needs is passed. (RULES 12.3, 12.7)
 pub record Suffice (d e : Netlist) (limits : Limits) : Type 0 where
   pub small : TooLarge d e (limits .size) → ⊥
   pub few-parts : TooManyParts d e (limits .rows) → ⊥
   pub few-steps : TooManySteps d e (limits .steps) → ⊥
 
--- The reply is Equal where output k of the two files agrees on every setting, and Different where it does not.
+-- The reply is Equal where output k of the two files agrees on every setting, and Different where it does not. (RULES 12.2)
 pub data Decided (d e : Netlist) (k : ℕ) : Said → Type 0 where
   is-equal : {rows steps : ℕ} → Agree d e k → Decided d e k (Said.equal rows steps)
   is-different : {rows steps : ℕ} → (Agree d e k → ⊥) → Decided d e k (Said.different rows steps)

@@ -1,4 +1,4 @@
--- Demand 3. Every list of comparisons, refused ones included, on the table of an accepted load of two files.
+-- Demand 3. Every list of comparisons, refused ones included, on the table of an accepted load of two files. (RULES 12.3)
 use Prim.Native.Nat.{_<_, ℕ}
 use Rattle.compare_model.specs.Claims.{MarksKept, ReplySays, problemBy}
 use Rattle.compare_model.specs.Compare.{Given, Left, compared, refusalOf}
@@ -19,7 +19,7 @@ pub record Call : Type 0 where
   pub left : Left
 
 -- "The first gets the table as an accepted load of two files left it, each later one as the one before left it, and nobody else writes
--- it.": the calls of a list, from a table to a table. Each is what the contract of compare says.
+-- it.": the calls of a list, from a table to a table. Each is what the contract of compare says. (RULES 12.3)
 pub data Ran : List ℕ → List Call → List ℕ → Type 0 where
   none : {table : List ℕ} → Ran table [] table
   next : {table : List ℕ} {c : Call} {cs : List Call} {last : List ℕ}
@@ -31,8 +31,8 @@ pub data Each (P : Call → Type 0) : List Call → Type 0 where
   next : {c : Call} {cs : List Call} → P c → Each P cs → Each P (c ∷ cs)
 
 -- "After the list every output of both files still has its file's value on every setting, and each reply kept demand 2 for the files'
--- outputs", and what demand 3 says of its rows, its steps and its cause. Of each that was not refused: what its marks mean, and what the paper
--- says of its reply by them.
+-- outputs", and what demand 3 says of its rows, its steps and its cause. Of each that was not refused: what its marks mean, and what the rules
+-- says of its reply by them. (RULES 7.4, 12.3)
 pub record Holds (d e : Netlist) (loaded : List ℕ) (calls : List Call) (last : List ℕ) : Type 0 where
   pub values : (side k : ℕ) (s : Setting) → k < length (d .outputs) → length s ≡ d .inputs
       → outputValue (graphOf last) side k s ≡ sideValue d e side k s

@@ -8,11 +8,11 @@ use mathlib.Core.List.{List}
 use mathlib.Core.Logic.{_≢_}
 use mathlib.Core.Path.{_≡_}
 
--- "A Different writes one byte an input, 48 or 49, to the front of the lent setting slice": those bytes.
+-- "A Different writes one byte an input, 48 or 49, to the front of the lent setting slice": those bytes. (RULES 7.2)
 abbrev pub written : Left → List ℕ
 written left = take (inputsOf (left .table)) (left .setting)
 
--- "Evaluating one side's output on a setting gives 0 or 1, its value there.": the two sides' values there are not one.
+-- "Evaluating one side's output on a setting gives 0 or 1, its value there.": the two sides' values there are not one. (RULES 10.2)
 pub record Confirmed (given : Given) (left : Left) (room : ℕ) : Type 0 where
   pub first : ℕ
   pub second : ℕ

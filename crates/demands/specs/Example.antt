@@ -1,5 +1,5 @@
 -- Premises of demand 3 and of completeness that are met: "The and/or pair above", and three comparisons of it, the first with limits that
--- suffice, the second refused.
+-- suffice, the second refused. (RULES 11.7, 13.3)
 use Prim.Native.Nat.{ℕ}
 use Rattle.compare_model.specs.Compare.{Given, compared, refusalOf}
 use Rattle.compare_model.specs.Said.{Said}
@@ -17,7 +17,7 @@ use lib.ListN.{replicate}
 use mathlib.Core.List.{List, [], _∷_}
 use mathlib.Core.Path.{_≡_}
 
--- "right the same but `or`": `G⇥or⇥2⇥4`, `O⇥6`.
+-- "right the same but `or`": `G⇥or⇥2⇥4`, `O⇥6`. (RULES 11.7)
 abbrev pub otherFile : List ℕ
 otherFile = withOneGate (71 ∷ 9 ∷ 111 ∷ 114 ∷ 9 ∷ 50 ∷ 9 ∷ 52 ∷ 10 ∷ 79 ∷ 9 ∷ 54 ∷ 10 ∷ [])
 
@@ -36,11 +36,12 @@ after = tableOf (oneGate And) (oneGate Or) before
 abbrev pub callOf : Given → Call
 callOf g = record { given = g; left = compared g }
 
--- The least limits that suffice: "row limit 3 gives Rows", "step limit 5 gives Steps .. and 6 gives Different; size limit 1 gives Size".
+-- The least limits that suffice: "row limit 3 gives Rows", "step limit 5 gives Steps .. and 6 gives Different; size limit 1
+-- gives Size". (RULES 13.3)
 abbrev pub leastLimits : Limits
 leastLimits = record { size = 2; rows = 4; steps = 6 }
 
--- "size limit 1 gives Size, rows 2, steps 6"
+-- "size limit 1 gives Size, rows 2, steps 6" (RULES 13.3)
 abbrev pub sizeOne : Limits
 sizeOne = record { size = 1; rows = 4096; steps = 4096 }
 

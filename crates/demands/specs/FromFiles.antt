@@ -12,7 +12,7 @@ use Rattle.netlist.specs.Netlist.{Netlist}
 use mathlib.Core.List.{List}
 use mathlib.Core.Path.{_≡_}
 
--- The netlists of the two files, with demand 3, and with a reply that decides wherever the limits suffice.
+-- The netlists of the two files, with demand 3, and with a reply that decides wherever the limits suffice. (RULES 12.3)
 pub record Demanded (left right loaded : List ℕ) (calls : List Call) (last : List ℕ) : Type 0 where
   pub first : Netlist
   pub second : Netlist

@@ -1,5 +1,5 @@
 -- What the program prints of two files whose load is accepted: the head line, and of each output in rising number a line that is true of
--- the files.
+-- the files. (RULES 11.2, 11.3)
 use Prim.Native.Nat.{suc, ℕ}
 use Rattle.compare_model.specs.Compare.{settingBytes}
 use Rattle.demands.specs.Claims.{Agree, Separated}
@@ -22,7 +22,7 @@ use mathlib.Core.Bool.{false}
 use mathlib.Core.List.{List, [], _++_, _∷_}
 use mathlib.Core.Path.{_≡_}
 
--- "then a line each": the line of a comparison.
+-- "then a line each": the line of a comparison. (RULES 11.3)
 abbrev pub callLine : Call → List ℕ
 callLine c = lineFor (c .given .output) (c .left .reply) (take (inputsOf (c .given .table)) (c .left .setting))
 
@@ -30,13 +30,13 @@ unfoldable pub callLines : List Call → List ℕ
 callLines [] = []
 callLines (c ∷ cs) = callLine c ++ callLines cs
 
--- "compares every output in rising number", "with size and row limits 4,096 and step limit 1,000,000": calls on the outputs from k on.
+-- "compares every output in rising number", "with size and row limits 4,096 and step limit 1,000,000": calls on the outputs from k on. (RULES 11.2)
 pub data Numbered : ℕ → List Call → Type 0 where
   none : {k : ℕ} → Numbered k []
   next : {k : ℕ} {c : Call} {cs : List Call} → c .given .output ≡ k → c .given .limits ≡ programLimits → Numbered (suc k) cs → Numbered k (c ∷ cs)
 
 -- A line on output k that is true of two files: `equal` where the output agrees on every setting, `different` with the first setting on
--- which it does not, or one of the undecided words.
+-- which it does not, or one of the undecided words. (RULES 11.4, 12.2)
 pub data TrueLine (d e : Netlist) (k : ℕ) : List ℕ → Type 0 where
   says-equal : (rows steps : ℕ) → Agree d e k → TrueLine d e k (replyLine edition k Equal [] None rows steps)
   says-different : (rows steps : ℕ) {before after : List ℕ} (s : Separated d e k before after)
@@ -59,7 +59,7 @@ PrintedTrue =
     → short? lent ≡ false → loadResult left right (loadRoom lent) ≡ accepted tally → readNetlist left ≡ read d → readNetlist right ≡ read e
     → Printed d e (tableOf d e (lent .table)) (reportOf left right lent)
 
--- "A refused load prints only `refused⇥number⇥file⇥line`."
+-- "A refused load prints only `refused⇥number⇥file⇥line`." (RULES 11.6)
 abbrev pub PrintedRefused : Type 0
 PrintedRefused =
     (left right : List ℕ) (lent : Lent) (number file line : ℕ)

@@ -1,4 +1,4 @@
--- Demand 1 for evaluate: a call that keeps the paper's rules is not refused, and no other is answered.
+-- Demand 1 for evaluate: a call that keeps the rules is not refused, and no other is answered.
 use Prim.Native.Nat.{_<_, suc, zero, ℕ}
 use Rattle.evaluate.proofs.ReadyLaws.{ready, value-answers}
 use Rattle.evaluate.specs.Evaluable.{Evaluable}

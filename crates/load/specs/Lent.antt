@@ -19,7 +19,7 @@ pub record Working : Type 0 where
 abbrev pub working : List ℕ → List ℕ → List ℕ → List ℕ → Working
 working pairs look literals outputs = record { pairs = pairs; look = look; literals = literals; outputs = outputs }
 
--- "refusals leaving all of them unchanged, and free are only the working slices"
+-- "refusals leaving all of them unchanged, and free are only the working slices" (RULES 8.3, 12.5)
 abbrev pub Kept : Answer → Working → Working → Type 0
 Kept (accepted t) before after = Unit
 Kept (refused k f n) before after = after ≡ before

@@ -1,4 +1,4 @@
--- The order of load's own tests, in the paper's numbers: each refusal is said where its sentence holds and none of those before it does.
+-- The order of load's own tests, in the rules' numbers: each refusal is said where its sentence holds and none of those before it does.
 use Prim.Native.Nat.{_+_, _<_, _≤_, ℕ}
 use Rattle.load_model.specs.Load.{LoadRoom, countsDiffer?, loadResult, maxTable, readResult, refused, shortSlice?}
 use Rattle.netlist.specs.Check.{read, readNetlist}

@@ -1,4 +1,4 @@
--- Gates into the graph: each AND asked for is folded, found or made.
+-- Gates into the graph: each AND asked for is folded, found or made. (RULES 3.2)
 use Prim.Native.Nat.{_*_, _+_, suc, zero, ℕ}
 use Rattle.aig.specs.Fold.{foldOf}
 use Rattle.aig.specs.Literal.{negate, onto, vertexOf}
@@ -13,7 +13,7 @@ use Rattle.netlist.specs.declared.records.Operation.{Operation}
 use lib.ListN.{getD}
 use mathlib.Core.List.{List, [], _++_, _∷_, map}
 
--- The graph so far, two words a vertex and the number of vertices; and "asked, folded, found".
+-- The graph so far, two words a vertex and the number of vertices; and "asked, folded, found". (RULES 3.8)
 pub record Build : Type 0 where
   pub words : List ℕ
   pub count : ℕ
@@ -26,17 +26,17 @@ pub record Built : Type 0 where
   pub literal : ℕ
   pub build : Build
 
--- "Folded: .."
+-- "Folded: .." (RULES 3.3)
 abbrev pub whenFolded : Build → ℕ → Built
 whenFolded b r =
     record { literal = r; build = record { words = b .words; count = b .count; asked = b .asked + 1; folded = b .folded + 1; found = b .found } }
 
--- "Found: the pair already has a vertex."
+-- "Found: the pair already has a vertex." (RULES 3.5)
 abbrev pub whenFound : Build → ℕ → Built
 whenFound b v =
     record { literal = 2 * v; build = record { words = b .words; count = b .count; asked = b .asked + 1; folded = b .folded; found = b .found + 1 } }
 
--- "Made: it gets the next vertex."
+-- "Made: it gets the next vertex." (RULES 3.6)
 abbrev pub whenMade : Build → ℕ → ℕ → Built
 whenMade b p q =
     record {
@@ -52,7 +52,7 @@ unfoldable pub foldedOrNot : Build → Folded → Built
 foldedOrNot b (To r) = whenFolded b (r .0)
 foldedOrNot b (Pair p q) = foundOrMade b (p .0) (q .0) (firstVertex (b .words) (p .0) (q .0) (b .count))
 
--- "Each AND asked for is folded, found or made."
+-- "Each AND asked for is folded, found or made." (RULES 3.2)
 unfoldable pub askAnd : Build → ℕ → ℕ → Built
 askAnd b p q = foldedOrNot b (foldOf p q)
 
@@ -61,20 +61,20 @@ abbrev pub inverted : Built → Built
 inverted x = record { literal = negate (x .literal); build = x .build }
 
 -- "`xor` stands for three ANDs in this order: p with not q, not p with q, then the inversions of these two results; the gate's value
--- is the inversion of the third."
+-- is the inversion of the third." (RULES 1.9)
 unfoldable pub askXor : Build → ℕ → ℕ → Built
 askXor b p q =
     let one = askAnd b p (negate q) in
     let two = askAnd (one .build) (negate p) q in
     inverted (askAnd (two .build) (negate (one .literal)) (negate (two .literal)))
 
--- "`or` is the inversion of (not p) and (not q)."
+-- "`or` is the inversion of (not p) and (not q)." (RULES 1.9)
 unfoldable pub askGate : Build → Operation → ℕ → ℕ → Built
 askGate b And p q = askAnd b p q
 askGate b Or p q = inverted (askAnd b (negate p) (negate q))
 askGate b Xor p q = askXor b p q
 
--- The graph's literal for a file's reference; literals has that of each of the file's vertices.
+-- The graph's literal for a file's reference; literals has that of each of the file's vertices. (RULES 3.1)
 abbrev pub literalFor : List ℕ → ℕ → ℕ
 literalFor literals r = onto (getD literals (vertexOf r) 0) r
 
@@ -86,13 +86,13 @@ pub record Traced : Type 0 where
 abbrev pub withGate : List ℕ → Built → Traced
 withGate literals x = record { literals = literals ++ (x .literal ∷ []); build = x .build }
 
--- "gates follow in file order"
+-- "gates follow in file order" (RULES 1.6, 3.1)
 unfoldable pub askGates : Traced → List Gate → Traced
 askGates t [] = t
 askGates t (g ∷ gs) =
     askGates (withGate (t .literals) (askGate (t .build) (g .op) (literalFor (t .literals) (g .p)) (literalFor (t .literals) (g .q)))) gs
 
--- The literals 2v of n vertices from v on: "Vertex 0 is constant false, vertices 1 to inputs are the inputs".
+-- The literals 2v of n vertices from v on: "Vertex 0 is constant false, vertices 1 to inputs are the inputs". (RULES 1.6)
 unfoldable pub literalsFrom : ℕ → ℕ → List ℕ
 literalsFrom v zero = []
 literalsFrom v (suc n) = 2 * v ∷ literalsFrom (suc v) n
@@ -111,7 +111,7 @@ buildFile b d =
 unfoldable pub emptyBuild : ℕ → Build
 emptyBuild n = record { words = ownWords 0 (1 + n); count = 1 + n; asked = 0; folded = 0; found = 0 }
 
--- "The first file is loaded whole, then the second."
+-- "The first file is loaded whole, then the second." (RULES 3.1)
 pub record PairBuilt : Type 0 where
   pub left : List ℕ
   pub right : List ℕ

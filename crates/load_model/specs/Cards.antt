@@ -1,4 +1,4 @@
--- The bench cards on loading, marked P, from the bytes of the files. "a is reference 2, b is 4": inputs 1 and 2, of two.
+-- The bench cards on loading, marked P, from the bytes of the files. "a is reference 2, b is 4": inputs 1 and 2, of two. (RULES 13.1, 13.2)
 use Prim.Native.Nat.{_*_, ℕ}
 use Rattle.load_model.specs.Load.{LoadRoom, accepted, loadResult, maxTable, maxVertices, tableAfter}
 use Rattle.netlist.specs.Check.{readNetlist}
@@ -12,15 +12,15 @@ use mathlib.Core.Path.{_≡_}
 abbrev pub withOneGate : List ℕ → List ℕ
 withOneGate rest = 78 ∷ 9 ∷ 49 ∷ 9 ∷ 50 ∷ 9 ∷ 49 ∷ 9 ∷ 49 ∷ 10 ∷ rest
 
--- `G⇥xor⇥2⇥2`, `O⇥6`
+-- `G⇥xor⇥2⇥2`, `O⇥6` (RULES 13.2)
 abbrev pub xorFile : List ℕ
 xorFile = withOneGate (71 ∷ 9 ∷ 120 ∷ 111 ∷ 114 ∷ 9 ∷ 50 ∷ 9 ∷ 50 ∷ 10 ∷ 79 ∷ 9 ∷ 54 ∷ 10 ∷ [])
 
--- `G⇥and⇥2⇥4`, `O⇥6`
+-- `G⇥and⇥2⇥4`, `O⇥6` (RULES 11.7, 13.2)
 abbrev pub andFile : List ℕ
 andFile = withOneGate (71 ∷ 9 ∷ 97 ∷ 110 ∷ 100 ∷ 9 ∷ 50 ∷ 9 ∷ 52 ∷ 10 ∷ 79 ∷ 9 ∷ 54 ∷ 10 ∷ [])
 
--- `G⇥or⇥3⇥5`, `O⇥7`
+-- `G⇥or⇥3⇥5`, `O⇥7` (RULES 13.2)
 abbrev pub orFile : List ℕ
 orFile = withOneGate (71 ∷ 9 ∷ 111 ∷ 114 ∷ 9 ∷ 51 ∷ 9 ∷ 53 ∷ 10 ∷ 79 ∷ 9 ∷ 55 ∷ 10 ∷ [])
 
@@ -36,7 +36,7 @@ room = record { table = maxTable; pairs = 2 * maxVertices; look = 2 * maxVertice
 abbrev pub tableLeft : List ℕ → List ℕ → List ℕ → List ℕ
 tableLeft left right old = tableAfter (loadResult left right room) (readNetlist left) (readNetlist right) old
 
--- "`xor 2 2`: asked 3, folded 3, value false." "`and 2 4` output 6 against `or 3 5` output 7: made 1, found 1"
+-- "`xor 2 2`: asked 3, folded 3, value false." "`and 2 4` output 6 against `or 3 5` output 7: made 1, found 1" (RULES 13.2)
 pub record Loading : Type 0 where
   pub xor-tally : loadResult xorFile falseFile room ≡ accepted (record { asked = 3; folded = 3; found = 0; made = 0 })
   pub xor-value : (old : List ℕ) (s : Setting) → outputValue (graphOf (tableLeft xorFile falseFile old)) 1 0 s ≡ false

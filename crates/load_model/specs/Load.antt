@@ -24,41 +24,41 @@ pub record LoadRoom : Type 0 where
   pub literals : ℕ
   pub outputs : ℕ
 
--- "for 6,209 vertices": the constant, 64 inputs and 6,144 ANDs.
+-- "for 6,209 vertices": the constant, 64 inputs and 6,144 ANDs. (RULES 2.3, 8.2)
 abbrev pub maxVertices : ℕ
 maxVertices = 1 + maxInputs + maxAnds
 
--- "12,419 words": a header, two words an AND and two sides of 64 outputs.
+-- "12,419 words": a header, two words an AND and two sides of 64 outputs. (RULES 2.3, 8.1)
 abbrev pub maxTable : ℕ
 maxTable = 3 + 2 * maxAnds + 2 * maxOutputs
 
--- An answer: how the ANDs that were asked for ended, or the number, the file and the line of a refusal.
+-- An answer: how the ANDs that were asked for ended, or the number, the file and the line of a refusal. (RULES 3.8, 8.1)
 pub data Answer : Type 0 where
   accepted : Tally → Answer
   refused : ℕ → ℕ → ℕ → Answer
 
--- The paper's number and values for each case of the result.
+-- The rules' number and values for each case of the result. (RULES 8.1)
 abbrev pub answerOf : Loaded → Answer
 answerOf (Accepted t) = accepted t
 answerOf (Refused k f n) = refused k f n
 
--- "1. The file is longer than 65,536 bytes.", for both files.
+-- "1. The file is longer than 65,536 bytes.", for both files. (RULES 8.1, 9.1)
 abbrev pub lengthTests : List ℕ → List ℕ → List (Test Answer)
 lengthTests left right =
     record { answer = refused 1 1 0; applies = ltb maxBytes (length left) }
     ∷ record { answer = refused 1 2 0; applies = ltb maxBytes (length right) }
     ∷ []
 
--- "7. Input or output counts differ (file 2, line 1, after both files are read)."
+-- "7. Input or output counts differ (file 2, line 1, after both files are read)." (RULES 8.1)
 unfoldable pub countsDiffer? : Netlist → Netlist → Bool
 countsDiffer? d e = not (eqb (d .inputs) (e .inputs)) || not (eqb (length (d .outputs)) (length (e .outputs)))
 
--- "14. A working slice is short: four slices of 2 words a vertex (load: for 6,209 vertices)"
+-- "14. A working slice is short: four slices of 2 words a vertex (load: for 6,209 vertices)" (RULES 8.1, 8.2)
 unfoldable pub shortSlice? : LoadRoom → Bool
 shortSlice? r =
     ltb (r .pairs) (2 * maxVertices) || ltb (r .look) (2 * maxVertices) || ltb (r .literals) (2 * maxVertices) || ltb (r .outputs) (2 * maxVertices)
 
--- "then 7, 8, 9, 14": "8. The ANDs exceed 6,144. 9. The table is shorter than 12,419 words."
+-- "then 7, 8, 9, 14": "8. The ANDs exceed 6,144. 9. The table is shorter than 12,419 words." (RULES 8.1, 9.1)
 abbrev pub pairTests : Netlist → Netlist → LoadRoom → List (Test Answer)
 pairTests d e room =
     record { answer = refused 7 2 1; applies = countsDiffer? d e }
@@ -67,29 +67,29 @@ pairTests d e room =
     ∷ record { answer = refused 14 0 0; applies = shortSlice? room }
     ∷ []
 
--- "The result carries asked, folded, found and made"
+-- "The result carries asked, folded, found and made" (RULES 3.8)
 unfoldable pub tallyOf : Netlist → Netlist → Tally
 tallyOf d e =
     let b = buildPair d e .build in
     record { asked = b .asked; folded = b .folded; found = b .found; made = b .count - (1 + d .inputs) }
 
--- "then 2 to 6 line by line, first file first"
+-- "then 2 to 6 line by line, first file first" (RULES 9.1)
 unfoldable pub readResult : LoadRoom → Read → Read → Answer
 readResult room (unread k n) e = refused k 1 n
 readResult room (read d) (unread k n) = refused k 2 n
 readResult room (read d) (read e) = firstRefusal (accepted (tallyOf d e)) (pairTests d e room)
 
--- "Load tests 1 for both files, then 2 to 6 line by line, first file first, then 7, 8, 9, 14, and names file and line"
+-- "Load tests 1 for both files, then 2 to 6 line by line, first file first, then 7, 8, 9, 14, and names file and line" (RULES 8.1, 9.1)
 unfoldable pub loadResult : List ℕ → List ℕ → LoadRoom → Answer
 loadResult left right room = firstRefusal (readResult room (readNetlist left) (readNetlist right)) (lengthTests left right)
 
 -- "The lent table of 32-bit words then holds: inputs; made; outputs; two words a made vertex; the first file's output references; the
--- second file's."
+-- second file's." (RULES 4.1)
 unfoldable pub tableWords : ℕ → PairBuilt → List ℕ
 tableWords inputs b =
     inputs ∷ (b .build .count - (1 + inputs)) ∷ length (b .left) ∷ (drop (2 * (1 + inputs)) (b .build .words) ++ (b .left ++ b .right))
 
--- "Words after these are unchanged."
+-- "Words after these are unchanged." (RULES 4.2)
 unfoldable pub tableOf : Netlist → Netlist → List ℕ → List ℕ
 tableOf d e old = let ws = tableWords (d .inputs) (buildPair d e) in ws ++ drop (length ws) old
 
@@ -97,7 +97,7 @@ tableOf d e old = let ws = tableWords (d .inputs) (buildPair d e) in ws ++ drop 
 abbrev pub loadedGraph : Netlist → Netlist → List ℕ → Graph
 loadedGraph d e old = graphOf (tableOf d e old)
 
--- The table after a load: unchanged after a refusal.
+-- The table after a load: unchanged after a refusal. (RULES 8.3)
 unfoldable pub tableAfter : Answer → Read → Read → List ℕ → List ℕ
 tableAfter (accepted t) (read d) (read e) old = tableOf d e old
 tableAfter (accepted t) (read d) (unread k n) old = old

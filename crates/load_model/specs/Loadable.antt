@@ -1,4 +1,4 @@
--- The pairs of netlists that are loaded, and the room that is asked of the lent slices, in the paper's own numbers.
+-- The pairs of netlists that are loaded, and the room that is asked of the lent slices, in the rules' own numbers. (RULES 12.1)
 use Prim.Native.Nat.{_+_, _≤_, ℕ}
 use Rattle.load_model.specs.Load.{LoadRoom, tallyOf}
 use Rattle.load_model.specs.declared.Tally.{Tally}
@@ -9,7 +9,7 @@ use lib.ListN.{length}
 use mathlib.Core.List.{List}
 use mathlib.Core.Path.{_≡_}
 
--- Two netlists within the limits, with equally many inputs and outputs, and at most 6,144 ANDs.
+-- Two netlists within the limits, with equally many inputs and outputs, and at most 6,144 ANDs. (RULES 1.11, 2.1, 2.2)
 pub record Loadable (d e : Netlist) : Type 0 where
   pub left : Within d
   pub right : Within e
@@ -17,7 +17,7 @@ pub record Loadable (d e : Netlist) : Type 0 where
   pub outputs : length (d .outputs) ≡ length (e .outputs)
   pub ands : andCount (d .gates) + andCount (e .gates) ≤ 6144
 
--- The table and the working slices are long enough: "12,419 words", "2 words a vertex (load: for 6,209 vertices)".
+-- The table and the working slices are long enough: "12,419 words", "2 words a vertex (load: for 6,209 vertices)". (RULES 8.1, 8.2)
 pub record Enough (room : LoadRoom) : Type 0 where
   pub table : 12419 ≤ room .table
   pub pairs : 12418 ≤ room .pairs
@@ -25,7 +25,7 @@ pub record Enough (room : LoadRoom) : Type 0 where
   pub literals : 12418 ≤ room .literals
   pub outputs : 12418 ≤ room .outputs
 
--- What an accepted load was given: the files of two such netlists, and enough room.
+-- What an accepted load was given: the files of two such netlists, and enough room. (RULES 12.1)
 pub record Loads (left right : List ℕ) (room : LoadRoom) (tally : Tally) : Type 0 where
   pub first : Netlist
   pub second : Netlist

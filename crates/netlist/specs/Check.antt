@@ -1,4 +1,4 @@
--- A file read line by line: the tests 2 to 6, and the netlist that an accepted file holds.
+-- A file read line by line: the tests 2 to 6, and the netlist that an accepted file holds. (RULES 9.1)
 use Prim.Native.Nat.{_*_, _+_, ℕ}
 use Rattle.netlist.specs.Limits.{edition, maxGates}
 use Rattle.netlist.specs.Netlist as netlist
@@ -19,41 +19,41 @@ use lib.Dec.{eqb, leb, ltb}
 use mathlib.Core.Bool.{Bool, _&&_, cond, false, not, true}
 use mathlib.Core.List.{List, [], _∷_}
 
--- "`and` and `or` stand for one AND each", "`xor` stands for three ANDs"
+-- "`and` and `or` stand for one AND each", "`xor` stands for three ANDs" (RULES 1.9, 2.2)
 abbrev pub andsOf : Operation → ℕ
 andsOf And = 1
 andsOf Or = 1
 andsOf Xor = 3
 
--- "2. The line is not an N, G or O record of this layout or has no end byte.": whether it is one.
+-- "2. The line is not an N, G or O record of this layout or has no end byte.": whether it is one. (RULES 8.1)
 unfoldable pub formed? : Record → Bool
 formed? Malformed = false
 formed? (Header e i g o) = true
 formed? (Gate op p q) = true
 formed? (Output r) = true
 
--- "5. The line is .. not of the kind due there": whether it is the header that is due in line 1.
+-- "5. The line is .. not of the kind due there": whether it is the header that is due in line 1. (RULES 8.1)
 unfoldable pub header? : Record → Bool
 header? (Header e i g o) = true
 header? (Gate op p q) = false
 header? (Output r) = false
 header? Malformed = false
 
--- "3. The edition is not 1.": whether it is.
+-- "3. The edition is not 1.": whether it is. (RULES 8.1)
 unfoldable pub known? : Record → Bool
 known? (Header e i g o) = eqb e edition
 known? (Gate op p q) = false
 known? (Output r) = false
 known? Malformed = false
 
--- "4. A count in line 1 is beyond its limit.": whether none is.
+-- "4. A count in line 1 is beyond its limit.": whether none is. (RULES 8.1)
 unfoldable pub limited? : Record → Bool
 limited? (Header e i g o) = leb i maxInputs && leb g maxGates && leb 1 o && leb o maxOutputs
 limited? (Gate op p q) = false
 limited? (Output r) = false
 limited? Malformed = false
 
--- "Within line 1 the order is 2, 5, 3, 4"
+-- "Within line 1 the order is 2, 5, 3, 4" (RULES 9.2)
 abbrev pub firstTests : Record → List (Test ℕ)
 firstTests r =
     record { answer = 2; applies = not (formed? r) }
@@ -68,21 +68,22 @@ abbrev pub body : ℕ → ℕ → ℕ → ℕ → ℕ → ℕ → Due
 body inputs gates outputs gate output ands =
     Later (record { inputs = inputs; gates = gates; outputs = outputs; gate = gate; output = output; ands = ands })
 
--- "5. The line is .. extra, or not of the kind due there": whether it is a gate's and gates are left, or an output's and only outputs are.
+-- "5. The line is .. extra, or not of the kind due there": whether it is a gate's and gates are left, or an output's and only
+-- outputs are. (RULES 8.1)
 unfoldable pub due? : Body → Record → Bool
 due? b (Gate op p q) = ltb (b .gate) (b .gates)
 due? b (Output r) = eqb (b .gate) (b .gates) && ltb (b .output) (b .outputs)
 due? b (Header e i g o) = false
 due? b Malformed = false
 
--- "6. A reference is not below twice its gate's vertex number or, in an output, twice the number of vertices.": whether all are.
+-- "6. A reference is not below twice its gate's vertex number or, in an output, twice the number of vertices.": whether all are. (RULES 8.1)
 unfoldable pub below? : Body → Record → Bool
 below? b (Gate op p q) = ltb p (2 * (1 + b .inputs + b .gate)) && ltb q (2 * (1 + b .inputs + b .gate))
 below? b (Output r) = ltb r (2 * (1 + b .inputs + b .gates))
 below? b (Header e i g o) = false
 below? b Malformed = false
 
--- "within others 2, 5, 6"
+-- "within others 2, 5, 6" (RULES 9.2)
 abbrev pub laterTests : Body → Record → List (Test ℕ)
 laterTests b r =
     record { answer = 2; applies = not (formed? r) }
@@ -90,12 +91,12 @@ laterTests b r =
     ∷ record { answer = 6; applies = not (below? b r) }
     ∷ []
 
--- The tests of a line, by what is due.
+-- The tests of a line, by what is due. (RULES 9.2)
 abbrev pub lineTests : Due → Record → List (Test ℕ)
 lineTests First r = firstTests r
 lineTests (Later b) r = laterTests b r
 
--- "5. The line is missing .. (an empty file: line 1)": whether more lines are due.
+-- "5. The line is missing .. (an empty file: line 1)": whether more lines are due. (RULES 8.1)
 unfoldable pub more? : Due → Bool
 more? First = true
 more? (Later b) = not (eqb (b .gate) (b .gates) && eqb (b .output) (b .outputs))
@@ -122,12 +123,12 @@ pub record Counts : Type 0 where
   pub outputs : ℕ
   pub ands : ℕ
 
--- An answer: the counts of an accepted file, or the number and the line of a refusal.
+-- An answer: the counts of an accepted file, or the number and the line of a refusal. (RULES 8.1)
 pub data Answer : Type 0 where
   accepted : Counts → Answer
   refused : ℕ → ℕ → Answer
 
--- The paper's number and values for each case of the result.
+-- The rules' number and values for each case of the result. (RULES 8.1)
 abbrev pub answerOf : Checked → Answer
 answerOf (Accepted s) = accepted (record { inputs = s .inputs; gates = s .gates; outputs = s .outputs; ands = s .ands })
 answerOf (Refused k n) = refused k n
@@ -145,7 +146,7 @@ answerAt n number rest = cond (eqb number 0) rest (refused number n)
 unfoldable pub finish : ℕ → Due → Answer
 finish n due = answerAt n (firstRefusal 0 (endTests due)) (accepted (countsOf due))
 
--- "then 2 to 6 line by line": the records from line n on, by what is due.
+-- "then 2 to 6 line by line": the records from line n on, by what is due. (RULES 9.1)
 unfoldable pub checkFrom : ℕ → Due → List Record → Answer
 checkFrom n due [] = finish n due
 checkFrom n due (r ∷ rs) = answerAt n (firstRefusal 0 (lineTests due r)) (checkFrom (n + 1) (dueAfter due r) rs)

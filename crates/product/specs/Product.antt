@@ -42,7 +42,7 @@ pub record Ask (rows : List ℕ) (limit used f g left steps most : ℕ) : Type 0
   pub small : most < 2 ^ 32
 
 -- "The product of two diagrams calls itself on both values of the lowest input, and a shortfall ends it.": the rows grew, and the end,
--- the rows and the steps are those of the run of the two functions.
+-- the rows and the steps are those of the run of the two functions. (RULES 6.8)
 pub record Multiplied (s t : List ℕ) (limit used f g left steps most : ℕ) (answer : Product) : Type 0 where
   pub grown : Grown s t limit used (usedBy answer)
   pub under : stepsOf answer ≤ most

@@ -18,7 +18,7 @@ rowsOfInputs = a ∷ node (leaf false) (leaf true) ∷ []
 abbrev pub inputsOnly : Book
 inputsOnly = record { store = rowsOfInputs; steps = 0 }
 
--- "For a AND b they are 3": the product of a and b, ended, with row limit 2 and with step limit 2.
+-- "For a AND b they are 3": the product of a and b, ended, with row limit 2 and with step limit 2. (RULES 5.7)
 pub record ProductOfTwo : Type 0 where
   pub and-done : run 3 3 a b inputsOnly ≡ done (record { store = conj a b ∷ rowsOfInputs; steps = 3 })
   pub and-rows : run 2 3 a b inputsOnly ≡ shortOfRows (record { store = rowsOfInputs; steps = 3 })
@@ -46,7 +46,7 @@ pub record ZeroBeforeOne : Type 0 where
   pub order-ended : run 3 7 second firstXorThird bothStored ≡ shortOfRows (record { store = rowsOfBoth; steps = 4 })
   pub order-steps : run 6 4 second firstXorThird bothStored ≡ shortOfSteps (record { store = conj a b ∷ rowsOfBoth; steps = 4 })
 
--- The product of not a and not b is true on the all-zero setting: "one row serving a function and its inverse", in plain form.
+-- The product of not a and not b is true on the all-zero setting: "one row serving a function and its inverse", in plain form. (RULES 6.7)
 abbrev pub rowsOfNor : List Truth
 rowsOfNor = disj a b ∷ rowsOfInputs
 
@@ -61,7 +61,7 @@ implies = disj (invert a) b
 abbrev pub rowsOfFactors : List Truth
 rowsOfFactors = invert implies ∷ disj a b ∷ rowsOfInputs
 
--- No row where the halves of a conjunction are equal, and no step for an input on which neither function depends.
+-- No row where the halves of a conjunction are equal, and no step for an input on which neither function depends. (RULES 5.2, 5.6)
 pub record NoRowNoStep : Type 0 where
   pub halves-equal : run 4 3 implies (disj a b) (record { store = rowsOfFactors; steps = 0 }) ≡ done (record { store = rowsOfFactors; steps = 3 })
   pub input-passed : run 3 3 (node a a) (node b b) inputsOnly ≡ done (record { store = conj a b ∷ rowsOfInputs; steps = 3 })

@@ -8,7 +8,7 @@ use Rattle.report.specs.declared.fields.Word.the-variants as word
 use lib.ListN.{length}
 use mathlib.Core.List.{List, []}
 
--- "A Different writes one byte an input .. to the front of the lent setting slice": the other replies have no setting.
+-- "A Different writes one byte an input .. to the front of the lent setting slice": the other replies have no setting. (RULES 7.2)
 abbrev pub settingFor : Said → List ℕ → List ℕ
 settingFor (Said.refused n) setting = []
 settingFor (Said.equal rows steps) setting = []
@@ -19,7 +19,7 @@ settingFor (Said.steps v rows steps) setting = []
 settingFor (Said.idle rows steps) setting = []
 
 -- "then a line each": of a reply on an output, with its "reply word (equal, different, size, rows, steps, idle)" and the "vertex named by
--- Rows or Steps". A comparison that is refused has neither file nor line.
+-- Rows or Steps". A comparison that is refused has neither file nor line. (RULES 11.3, 11.4)
 abbrev pub lineFor : ℕ → Said → List ℕ → List ℕ
 lineFor output (Said.refused n) setting = refusedLine n 0 0
 lineFor output (Said.equal rows steps) setting = replyLine edition output word.Equal [] None rows steps

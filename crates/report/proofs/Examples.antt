@@ -1,4 +1,4 @@
--- Lines of the paper, byte by byte.
+-- Lines of the rules, byte by byte.
 use Rattle.report.specs.Report.{refusedLine, replyLine}
 use Rattle.report.specs.declared.fields.Vertex.the-variants.{At, None}
 use Rattle.report.specs.declared.fields.Word.the-variants.{Different, Steps}

@@ -12,11 +12,11 @@ use mathlib.Core.Bool.{cond}
 use mathlib.Core.List.{List, [], _++_, _∷_}
 use mathlib.Core.Path.{_≡_}
 
--- "`rules⇥output⇥reply⇥setting⇥vertex⇥rows⇥steps`": fields as a line, a tab (byte 9) between each two and byte 10 at its end.
+-- "`rules⇥output⇥reply⇥setting⇥vertex⇥rows⇥steps`": fields as a line, a tab (byte 9) between each two and byte 10 at its end. (RULES 11.3)
 abbrev pub lineOf : List (List ℕ) → List ℕ
 lineOf fields = join 9 fields ++ 10 ∷ []
 
--- "prints a head line": `rules`, `output`, `reply`, `setting`, `vertex`, `rows`, `steps`.
+-- "prints a head line": `rules`, `output`, `reply`, `setting`, `vertex`, `rows`, `steps`. (RULES 11.3)
 unfoldable pub headLine : List ℕ
 headLine =
     lineOf
@@ -29,7 +29,7 @@ headLine =
     ∷ (115 ∷ 116 ∷ 101 ∷ 112 ∷ 115 ∷ [])
     ∷ [])
 
--- "reply word (equal, different, size, rows, steps, idle)"
+-- "reply word (equal, different, size, rows, steps, idle)" (RULES 11.4)
 abbrev pub wordBytes : Word → List ℕ
 wordBytes Equal = 101 ∷ 113 ∷ 117 ∷ 97 ∷ 108 ∷ []
 wordBytes Different = 100 ∷ 105 ∷ 102 ∷ 102 ∷ 101 ∷ 114 ∷ 101 ∷ 110 ∷ 116 ∷ []
@@ -38,30 +38,30 @@ wordBytes Rows = 114 ∷ 111 ∷ 119 ∷ 115 ∷ []
 wordBytes Steps = 115 ∷ 116 ∷ 101 ∷ 112 ∷ 115 ∷ []
 wordBytes Idle = 105 ∷ 100 ∷ 108 ∷ 101 ∷ []
 
--- "`-` stands for no setting, an empty setting": a setting's bytes as a field. No setting is an empty one.
+-- "`-` stands for no setting, an empty setting": a setting's bytes as a field. No setting is an empty one. (RULES 11.5)
 abbrev pub settingField : List ℕ → List ℕ
 settingField [] = 45 ∷ []
 settingField (b ∷ bs) = b ∷ bs
 
--- "`-` stands for .. no vertex": a vertex number as a field.
+-- "`-` stands for .. no vertex": a vertex number as a field. (RULES 11.5)
 abbrev pub vertexField : Vertex → List ℕ
 vertexField None = 45 ∷ []
 vertexField (At n) = decimal n
 
--- "The fields are: edition, output number, reply word .., setting, vertex named by Rows or Steps, rows, steps."
+-- "The fields are: edition, output number, reply word .., setting, vertex named by Rows or Steps, rows, steps." (RULES 11.4)
 abbrev pub replyFields : ℕ → ℕ → Word → List ℕ → Vertex → ℕ → ℕ → List (List ℕ)
 replyFields edition output word setting vertex rows steps =
     decimal edition ∷ decimal output ∷ wordBytes word ∷ settingField setting ∷ vertexField vertex ∷ decimal rows ∷ decimal steps ∷ []
 
--- "then a line each": the line of a reply.
+-- "then a line each": the line of a reply. (RULES 11.3)
 unfoldable pub replyLine : ℕ → ℕ → Word → List ℕ → Vertex → ℕ → ℕ → List ℕ
 replyLine edition output word setting vertex rows steps = lineOf (replyFields edition output word setting vertex rows steps)
 
--- "A refused load prints only `refused⇥number⇥file⇥line`."
+-- "A refused load prints only `refused⇥number⇥file⇥line`." (RULES 11.6)
 abbrev pub refusedFields : ℕ → ℕ → ℕ → List (List ℕ)
 refusedFields number file line = (114 ∷ 101 ∷ 102 ∷ 117 ∷ 115 ∷ 101 ∷ 100 ∷ []) ∷ decimal number ∷ decimal file ∷ decimal line ∷ []
 
--- The line of a refused load.
+-- The line of a refused load. (RULES 11.6)
 unfoldable pub refusedLine : ℕ → ℕ → ℕ → List ℕ
 refusedLine number file line = lineOf (refusedFields number file line)
 

@@ -28,24 +28,24 @@ enough =
 abbrev pub printed : List ℕ → List ℕ → List ℕ
 printed left right = let r = reportOf left right enough in take (r .count) (r .out)
 
--- "right the same but `or`": `G⇥or⇥2⇥4`, `O⇥6`.
+-- "right the same but `or`": `G⇥or⇥2⇥4`, `O⇥6`. (RULES 11.7)
 abbrev pub sameButOr : List ℕ
 sameButOr = withOneGate (71 ∷ 9 ∷ 111 ∷ 114 ∷ 9 ∷ 50 ∷ 9 ∷ 52 ∷ 10 ∷ 79 ∷ 9 ∷ 54 ∷ 10 ∷ [])
 
--- `xor 2 4` output 6, named twice.
+-- `xor 2 4` output 6, named twice. (RULES 13.3)
 abbrev pub xorTwice : List ℕ
 xorTwice =
     78 ∷ 9 ∷ 49 ∷ 9 ∷ 50 ∷ 9 ∷ 49 ∷ 9 ∷ 50 ∷ 10 ∷ 71 ∷ 9 ∷ 120 ∷ 111 ∷ 114 ∷ 9 ∷ 50 ∷ 9 ∷ 52 ∷ 10 ∷ 79 ∷ 9 ∷ 54 ∷ 10 ∷ 79 ∷ 9 ∷ 54 ∷ 10 ∷ []
 
--- "`or 2 4`, `and 2 4`, `and 6 9` output 10", named twice.
+-- "`or 2 4`, `and 2 4`, `and 6 9` output 10", named twice. (RULES 13.3)
 abbrev pub builtTwice : List ℕ
 builtTwice =
     78 ∷ 9 ∷ 49 ∷ 9 ∷ 50 ∷ 9 ∷ 51 ∷ 9 ∷ 50 ∷ 10 ∷ 71 ∷ 9 ∷ 111 ∷ 114 ∷ 9 ∷ 50 ∷ 9 ∷ 52 ∷ 10 ∷ 71 ∷ 9 ∷ 97 ∷ 110 ∷ 100 ∷ 9 ∷ 50 ∷ 9 ∷ 52 ∷ 10 ∷ 71 ∷ 9 ∷ 97 ∷ 110 ∷ 100 ∷ 9 ∷ 54 ∷ 9 ∷ 57 ∷ 10 ∷ 79 ∷ 9 ∷ 49 ∷ 48 ∷ 10 ∷ 79 ∷ 9 ∷ 49 ∷ 48 ∷ 10 ∷ []
 
 pub record Cards : Type 0 where
-  -- "With left `N⇥1⇥2⇥1⇥1`, `G⇥and⇥2⇥4`, `O⇥6`, and right the same but `or`, it prints .. `1⇥0⇥different⇥01⇥-⇥4⇥6`"
+  -- "With left `N⇥1⇥2⇥1⇥1`, `G⇥and⇥2⇥4`, `O⇥6`, and right the same but `or`, it prints .. `1⇥0⇥different⇥01⇥-⇥4⇥6`" (RULES 11.7)
   pub sample : printed andFile sameButOr ≡ headLine ++ replyLine edition 0 Different (48 ∷ 49 ∷ []) None 4 6
-  -- ".. Equal, rows 7, steps 18": the second comparison finds merged what the first one merged.
+  -- ".. Equal, rows 7, steps 18": the second comparison finds merged what the first one merged. (RULES 13.3)
   pub twice : printed xorTwice builtTwice ≡ headLine ++ (replyLine edition 0 Equal [] None 7 18 ++ replyLine edition 1 Equal [] None 0 0)
-  -- "A file that cannot be read is taken as empty", "an empty file: line 1"
+  -- "A file that cannot be read is taken as empty", "an empty file: line 1" (RULES 8.1, 11.1)
   pub empty : printed [] andFile ≡ refusedLine 5 1 1

@@ -13,7 +13,7 @@ use lib.ListN.{length, take}
 use mathlib.Core.Bool.{Bool, _&&_, _||_, cond, false, not, true}
 use mathlib.Core.List.{List, [], _++_, _∷_}
 
--- "with size and row limits 4,096 and step limit 1,000,000"
+-- "with size and row limits 4,096 and step limit 1,000,000" (RULES 11.2)
 abbrev pub sizeLimit : ℕ
 sizeLimit = 4096
 
@@ -30,7 +30,7 @@ programLimits = record { size = sizeLimit; rows = rowLimit; steps = stepLimit }
 abbrev pub replyRoom : ℕ
 replyRoom = LINE-ROOM + maxInputs
 
--- The most bytes of a report: "a head line, then a line each", of at most 64 outputs.
+-- The most bytes of a report: "a head line, then a line each", of at most 64 outputs. (RULES 2.1, 11.3)
 abbrev pub reportRoom : ℕ
 reportRoom = LINE-ROOM + maxOutputs * replyRoom
 
@@ -51,7 +51,7 @@ pub record Report : Type 0 where
   pub marks : List ℕ
   pub setting : List ℕ
 
--- The comparison after another: that of the next output, on the slices as the one before left them.
+-- The comparison after another: that of the next output, on the slices as the one before left them. (RULES 11.2)
 unfoldable pub next : Given → Given
 next g =
     let left = compared g in
@@ -69,12 +69,13 @@ unfoldable pub after : ℕ → Given → Given
 after zero g = g
 after (suc n) g = next (after n g)
 
--- "compares every output in rising number": n comparisons, from a first one on.
+-- "compares every output in rising number": n comparisons, from a first one on. (RULES 11.2)
 unfoldable pub comparisons : ℕ → Given → List Given
 comparisons zero g = []
 comparisons (suc n) g = g ∷ comparisons n (next g)
 
--- "then a line each": the line of a comparison. A Different's setting is "one byte an input .. to the front of the lent setting slice".
+-- "then a line each": the line of a comparison. A Different's setting is "one byte an input .. to the front of the lent setting
+-- slice". (RULES 7.2, 11.3)
 unfoldable pub comparisonLine : Given → List ℕ
 comparisonLine g = let left = compared g in lineFor (g .output) (left .reply) (take (inputsOf (g .table)) (left .setting))
 
@@ -83,12 +84,12 @@ unfoldable pub linesOf : List Given → List ℕ
 linesOf [] = []
 linesOf (g ∷ gs) = comparisonLine g ++ linesOf gs
 
--- "loads once, compares every output": as many comparisons as the table has outputs, and none after a refused load.
+-- "loads once, compares every output": as many comparisons as the table has outputs, and none after a refused load. (RULES 11.2)
 abbrev pub comparisonCount : Answer → List ℕ → ℕ
 comparisonCount (refused number file line) table = 0
 comparisonCount (accepted tally) table = outputsOf table
 
--- "prints a head line, then a line each." "A refused load prints only `refused⇥number⇥file⇥line`."
+-- "prints a head line, then a line each." "A refused load prints only `refused⇥number⇥file⇥line`." (RULES 11.3, 11.6)
 abbrev pub reportBytes : Answer → List Given → List ℕ
 reportBytes (refused number file line) gs = refusedLine number file line
 reportBytes (accepted tally) gs = headLine ++ linesOf gs
@@ -128,7 +129,7 @@ short? lent = shortRoom? (length (lent .out)) (lent .room .rows) (length (lent .
 abbrev pub untouched : Lent → Report
 untouched lent = record { count = 0; out = lent .out; table = lent .table; marks = lent .marks; setting = lent .setting }
 
--- "The program `compare` .. loads once, compares every output in rising number and prints": the report of two files.
+-- "The program `compare` .. loads once, compares every output in rising number and prints": the report of two files. (RULES 11.2, 11.3)
 unfoldable pub reportOf : List ℕ → List ℕ → Lent → Report
 reportOf left right lent =
     let loaded = loadResult left right (loadRoom lent) in

@@ -1,4 +1,4 @@
-// The evaluator on the paper's and/or table, on each refusal, and on tables with no inputs, the most inputs and the most vertices.
+// The evaluator on the and/or table of the rules, on each refusal, and on tables with no inputs, the most inputs and the most vertices.
 // A line for each call: what was asked, and what came.
 use evaluate::Evaluated;
 use libc::STDOUT_FILENO;

@@ -134,7 +134,7 @@ module _ {p : Problem} {entry : List ℕ} (fit : Fit p entry) where
       rest-claims (fit .well-formed .some-first) (sweep-rests fit r) (sweep-quiet fit (reachable-keeps fit) r .0 .reached .kept)
       (sweep-quiet fit (sources-keep fit) r .0 .reached .kept)
 
-  -- After Idle the paper's conditions hold: it is never said.
+  -- After Idle the conditions of the rules hold: it is never said.
   pub after-idle : sweep p entry .verdict ≡ undecided Idle → AfterIdle p (sweep p entry .left .marks)
   after-idle e = absurd (never-idle fit e)
 

@@ -1,4 +1,4 @@
--- Bench cards on replies, of the sweep alone: tables of at most two inputs.
+-- Bench cards on replies, of the sweep alone: tables of at most two inputs. (RULES 13.2, 13.3)
 use Prim.Native.Nat.{suc, zero, ℕ}
 use Rattle.aig.specs.Lookup.{firstWord, ownWords, secondWord}
 use Rattle.aig.specs.Values.{literalValue}
@@ -55,33 +55,33 @@ limits size rows steps = record { size = size; rows = rows; steps = steps }
 abbrev pub answer : ℕ → ℕ → List ℕ → ℕ → ℕ → Limits → Result
 answer inputs made words left right l = sweep (cardProblem inputs made words left right l) (ownWords 0 (suc inputs) ++ words)
 
--- "The and/or pair above": a AND b is vertex 3, the AND of their inversions vertex 4; outputs 6 and 9.
+-- "The and/or pair above": a AND b is vertex 3, the AND of their inversions vertex 4; outputs 6 and 9. (RULES 11.7, 13.3)
 abbrev pub andOr : Limits → Result
 andOr l = answer 2 2 (2 ∷ 4 ∷ 3 ∷ 5 ∷ []) 6 9 l
 
--- "`xor 2 4` output 6 against `or 2 4`, `and 2 4`, `and 6 9` output 10: made 6": outputs 11 and 16.
+-- "`xor 2 4` output 6 against `or 2 4`, `and 2 4`, `and 6 9` output 10: made 6": outputs 11 and 16. (RULES 13.3)
 abbrev pub xorPair : Limits → Result
 xorPair l = answer 2 6 (2 ∷ 5 ∷ 3 ∷ 4 ∷ 7 ∷ 9 ∷ 3 ∷ 5 ∷ 2 ∷ 4 ∷ 13 ∷ 15 ∷ []) 11 16 l
 
--- "limits 4,096 unless said"
+-- "limits 4,096 unless said" (RULES 13.1)
 abbrev pub usual : Limits
 usual = limits 4096 4096 4096
 
 pub record SweepCards : Type 0 where
   -- "row limit 3 gives Rows at vertex 4, rows 3; step limit 5 gives Steps at vertex 4, steps 5, and 6 gives Different; size limit 1
-  -- gives Size, rows 2, steps 6."
+  -- gives Size, rows 2, steps 6." (RULES 13.3)
   pub and-or : told (andOr usual) ≡ says (different (false ∷ true ∷ [])) 4 6
   pub and-or-rows : told (andOr (limits 4096 3 4096)) ≡ says (undecided (Rows 4)) 3 6
   pub and-or-steps : told (andOr (limits 4096 4096 5)) ≡ says (undecided (Steps 4)) 3 5
   pub and-or-six : told (andOr (limits 4096 4096 6)) ≡ says (different (false ∷ true ∷ [])) 4 6
   pub and-or-size : told (andOr (limits 1 4096 4096)) ≡ says (undecided Size) 2 6
-  -- "Equal, rows 7, steps 18; vertex 8's row becomes (11, 11)."
+  -- "Equal, rows 7, steps 18; vertex 8's row becomes (11, 11)." (RULES 13.3)
   pub xor-pair : told (xorPair usual) ≡ says equal 7 18
   pub xor-first : firstWord (xorPair usual .left .rows) 8 ≡ 11
   pub xor-second : secondWord (xorPair usual .left .rows) 8 ≡ 11
-  -- "`and 2 4` output 6 against `or 3 5` output 7: .. Equal, rows 0, steps 0."
+  -- "`and 2 4` output 6 against `or 3 5` output 7: .. Equal, rows 0, steps 0." (RULES 13.2)
   pub and-twice : told (answer 2 1 (2 ∷ 4 ∷ []) 6 6 usual) ≡ says equal 0 0
-  -- "output 2 against 3, one input: Different, setting 0, rows 0."
+  -- "output 2 against 3, one input: Different, setting 0, rows 0." (RULES 13.2)
   pub inverse-wires : told (answer 1 0 [] 2 3 usual) ≡ says (different (false ∷ [])) 0 0
-  -- "no inputs, 0 against 1: Different, empty setting."
+  -- "no inputs, 0 against 1: Different, empty setting." (RULES 13.2)
   pub no-inputs : told (answer 0 0 [] 0 1 usual) ≡ says (different []) 0 0

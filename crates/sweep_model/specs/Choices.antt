@@ -1,4 +1,4 @@
--- What the paper says of the sweep's choices: the vertex that opens, and the state in which Different is said.
+-- What the rules say of the sweep's choices: the vertex that opens, and the state in which Different is said. (RULES 6.2, 6.4, 6.5)
 use Prim.Native.Nat.{_≤_, ℕ}
 use Rattle.aig.specs.Literal.{negate, vertexOf}
 use Rattle.sweep_model.specs.Normalise.{resolve}
@@ -9,14 +9,14 @@ use mathlib.Core.List.{List}
 use mathlib.Core.Logic.{_≢_}
 use mathlib.Core.Path.{_≡_}
 
--- "The waiting vertex of least size opens, lowest number on a tie."
+-- "The waiting vertex of least size opens, lowest number on a tie." (RULES 6.4)
 pub record Opens (p : Problem) (stages : List Stage) (v : ℕ) : Type 0 where
   pub waits : waits? (stageOf stages v) ≡ true
   pub least : (w : ℕ) → waits? (stageOf stages w) ≡ true → size (functionOf p v) ≤ size (functionOf p w)
   pub lowest : (w : ℕ) → waits? (stageOf stages w) ≡ true → size (functionOf p v) ≡ size (functionOf p w) → v ≤ w
 
 -- What the outputs looked at became: literals l and r. "If they are inverse, Different"; "if both have diagrams and are not one
--- reference, Different."
+-- reference, Different." (RULES 6.2, 6.5)
 pub data Apart (s : State) (l r : ℕ) : Type 0 where
   inverse : l ≡ negate r → Apart s l r
   with-diagrams : l ≢ r → has? (stageOf (s .stages) (vertexOf l)) ≡ true → has? (stageOf (s .stages) (vertexOf r)) ≡ true → Apart s l r

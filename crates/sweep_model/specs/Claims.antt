@@ -1,4 +1,4 @@
--- What the paper says of a reply: marks, rows, steps, and the conditions after each.
+-- What the rules say of a reply: marks, rows, steps, and the conditions after each. (RULES 7.4 to 7.11)
 use Prim.Native.Nat.{_+_, _-_, _<_, _≤_, suc, zero, ℕ}
 use Rattle.aig.specs.Literal.{vertexOf}
 use Rattle.aig.specs.Lookup.{firstWord, secondWord}
@@ -15,7 +15,7 @@ use mathlib.Core.List.{List, [], _∷_, map}
 use mathlib.Core.Logic.{_≢_, _⊎_}
 use mathlib.Core.Path.{_≡_}
 
--- An AND: the functions of its two operands. Its function and its product steps.
+-- An AND: the functions of its two operands. Its function and its product steps. (RULES 5.7)
 abbrev pub And : Type 0
 And = Truth × Truth
 
@@ -25,12 +25,12 @@ andFunction x = conj (x .0) (x .1)
 abbrev pub andSteps : And → ℕ
 andSteps x = steps (x .0) (x .1)
 
--- "they add up"
+-- "they add up" (RULES 5.8)
 unfoldable pub sum : List ℕ → ℕ
 sum [] = 0
 sum (n ∷ ns) = n + sum ns
 
--- "The steps of an AND are those of its two operand functions before it was itself merged.": n made vertices from v on, by given rows.
+-- "The steps of an AND are those of its two operand functions before it was itself merged.": n made vertices from v on, by given rows. (RULES 5.7)
 unfoldable pub andsFrom : Problem → List ℕ → ℕ → ℕ → List And
 andsFrom p rows v zero = []
 andsFrom p rows v (suc n) = (literalFunction p (firstWord rows v), literalFunction p (secondWord rows v)) ∷ andsFrom p rows (suc v) n
@@ -50,35 +50,35 @@ is k m = eqb m k
 abbrev pub isEither : ℕ → ℕ → ℕ → Bool
 isEither j k m = eqb m j || eqb m k
 
--- "Rows reported = distinct parts of the functions marked 1."
+-- "Rows reported = distinct parts of the functions marked 1." (RULES 7.5)
 abbrev pub rowsMarked : Problem → List ℕ → ℕ
 rowsMarked p marks = together (marked (is 1) marks (p .functions))
 
--- "the functions marked 1 or 3 have more parts than the row limit"
+-- "the functions marked 1 or 3 have more parts than the row limit" (RULES 7.8)
 abbrev pub rowsMarkedWithLast : Problem → List ℕ → ℕ
 rowsMarkedWithLast p marks = together (marked (isEither 1 3) marks (p .functions))
 
--- "the sum over ANDs marked 1 or 2", the operands by the entry rows.
+-- "the sum over ANDs marked 1 or 2", the operands by the entry rows. (RULES 7.6)
 abbrev pub stepsMarked : Problem → List ℕ → List ℕ → ℕ
 stepsMarked p rows marks = sum (map andSteps (marked (isEither 1 2) (drop (p .first) marks) (andsOf p rows)))
 
--- "the sum with the vertex marked 3"
+-- "the sum with the vertex marked 3" (RULES 7.7)
 abbrev pub stepsMarkedWithLast : Problem → List ℕ → List ℕ → ℕ
 stepsMarkedWithLast p rows marks =
     sum (map andSteps (marked (λ m. isEither 1 2 m || is 3 m) (drop (p .first) marks) (andsOf p rows)))
 
--- "3 the vertex named by Rows or Steps"
+-- "3 the vertex named by Rows or Steps" (RULES 7.4)
 pub data Names : Verdict → ℕ → Type 0 where
   by-rows : {v : ℕ} → Names (undecided (Rows v)) v
   by-steps : {v : ℕ} → Names (undecided (Steps v)) v
 
 -- The conditions after Size and Idle, on count vertices of which some come first: marks and rows as a reply left them, and the rows by
--- which operands are read.
+-- which operands are read. (RULES 7.10)
 module _ (first count : ℕ) (marks rows operands : List ℕ) where
   abbrev pub markOf : ℕ → ℕ
   markOf v = getD marks v 0
 
-  -- "A vertex merged into reference r has the row (r, r)."
+  -- "A vertex merged into reference r has the row (r, r)." (RULES 6.1)
   abbrev pub Merged : ℕ → Type 0
   Merged v = firstWord rows v ≡ secondWord rows v
 
@@ -87,7 +87,7 @@ module _ (first count : ℕ) (marks rows operands : List ℕ) where
     pub made : first ≤ v
     pub there : v < count
 
-  -- "has one marked 1 merged into it"
+  -- "has one marked 1 merged into it" (RULES 7.10)
   pub record TookOne (v : ℕ) : Type 0 where
     pub other : ℕ
     pub made : Made other
@@ -95,30 +95,30 @@ module _ (first count : ℕ) (marks rows operands : List ℕ) where
     pub merged : Merged other
     pub into : vertexOf (firstWord rows other) ≡ v
 
-  -- "an unmerged AND marked 2, or marked 0 with none marked 1 merged into it"
+  -- "an unmerged AND marked 2, or marked 0 with none marked 1 merged into it" (RULES 7.10)
   pub record Stuck (v : ℕ) : Type 0 where
     pub made : Made v
     pub unmerged : Merged v → ⊥
     pub mark : (markOf v ≡ 2) ⊎ ((markOf v ≡ 0) × (TookOne v → ⊥))
 
-  -- "is merged, or has one marked 1 merged into it, or has an operand that is .."
+  -- "is merged, or has one marked 1 merged into it, or has an operand that is .." (RULES 7.10)
   pub data Excused (v : ℕ) : Type 0 where
     by-merging : Merged v → Excused v
     by-taking : TookOne v → Excused v
     by-first : Stuck (vertexOf (firstWord operands v)) → Excused v
     by-second : Stuck (vertexOf (secondWord operands v)) → Excused v
 
-  -- "After Size and Idle, every input is marked 1, and every AND marked 0 ..".
+  -- "After Size and Idle, every input is marked 1, and every AND marked 0 ..". (RULES 7.10)
   pub record AtRest : Type 0 where
     pub inputs : (v : ℕ) → 1 ≤ v → v < first → markOf v ≡ 1
     pub ands : (v : ℕ) → Made v → markOf v ≡ 0 → Excused v
 
--- "neither constant nor equal or inverse to a function marked 1": a literal.
+-- "neither constant nor equal or inverse to a function marked 1": a literal. (RULES 7.11)
 pub record Unmatched (p : Problem) (marks : List ℕ) (r : ℕ) : Type 0 where
   pub not-constant : constant? (literalFunction p r) ≡ false
   pub not-alike : (v : ℕ) → v < length (p .functions) → getD marks v 0 ≡ 1 → alike? (literalFunction p r) (functionOf p v) ≡ false
 
--- "After Idle, .. no mark is 2 or 3, and some output is ..": one of the two looked at.
+-- "After Idle, .. no mark is 2 or 3, and some output is ..": one of the two looked at. (RULES 7.11)
 pub record AfterIdle (p : Problem) (marks : List ℕ) : Type 0 where
   pub none-large : (v : ℕ) → v < length (p .functions) → getD marks v 0 ≢ 2
   pub none-named : (v : ℕ) → v < length (p .functions) → getD marks v 0 ≢ 3

@@ -13,7 +13,7 @@ abbrev pub vertexCount : Problem → ℕ
 vertexCount p = length (p .functions)
 
 -- "Vertex 0 is constant false, vertices 1 to inputs are the inputs": the first vertices. All functions are of the problem's inputs,
--- and the literals looked at name vertices.
+-- and the literals looked at name vertices. (RULES 1.6)
 pub record WellFormed (p : Problem) : Type 0 where
   pub perfect : (v : ℕ) → v < vertexCount p → Perfect (p .inputs) (functionOf p v)
   pub constant : functionOf p 0 ≡ constantly (p .inputs) false
@@ -24,7 +24,8 @@ pub record WellFormed (p : Problem) : Type 0 where
   pub left-within : p .left < 2 * vertexCount p
   pub right-within : p .right < 2 * vertexCount p
 
--- Two words a vertex, count vertices: a first vertex holds its own literal twice, and "A gate refers only to vertices below itself."
+-- Two words a vertex, count vertices: a first vertex holds its own literal twice, and "A gate refers only to vertices below
+-- itself." (RULES 1.8, 4.3)
 pub record Downward (first count : ℕ) (rows : List ℕ) : Type 0 where
   pub long : 2 * count ≤ length rows
   pub own : (v : ℕ) → v < first → HoldsRow rows v (2 * v) (2 * v)

@@ -7,7 +7,7 @@ use lib.ListN.{getD, set}
 use mathlib.Core.Bool.{Bool, false, true}
 use mathlib.Core.List.{List}
 
--- "The size or row limit .. or the step limit"
+-- "The size or row limit .. or the step limit" (RULES 2.4)
 pub record Limits : Type 0 where
   pub size : ℕ
   pub rows : ℕ
@@ -30,11 +30,11 @@ functionOf p v = getD (p .functions) v (constantly (p .inputs) false)
 abbrev pub literalFunction : Problem → ℕ → Truth
 literalFunction p r = literalValue invert conj (constantly (p .inputs) false) (p .functions) r
 
--- The stage of a vertex: no diagram yet; has one and waits; open; open and waiting again; "too large"; merged.
+-- The stage of a vertex: no diagram yet; has one and waits; open; open and waiting again; "too large"; merged. (RULES 6.4, 7.4)
 pub data Stage : Type 0 where
   bare waiting opened again dropped gone : Stage
 
--- "a vertex with a diagram"
+-- "a vertex with a diagram" (RULES 6.4)
 unfoldable pub has? : Stage → Bool
 has? bare = false
 has? waiting = true
@@ -43,7 +43,7 @@ has? again = true
 has? dropped = false
 has? gone = false
 
--- "The waiting vertex"
+-- "The waiting vertex" (RULES 6.4)
 unfoldable pub waits? : Stage → Bool
 waits? bare = false
 waits? waiting = true
@@ -52,7 +52,7 @@ waits? again = true
 waits? dropped = false
 waits? gone = false
 
--- "A vertex once opened stays open."
+-- "A vertex once opened stays open." (RULES 6.4)
 unfoldable pub open? : Stage → Bool
 open? bare = false
 open? waiting = false
@@ -61,7 +61,7 @@ open? again = true
 open? dropped = false
 open? gone = false
 
--- "without a diagram, not merged and not dropped"
+-- "without a diagram, not merged and not dropped" (RULES 6.4)
 unfoldable pub bare? : Stage → Bool
 bare? bare = true
 bare? waiting = false
@@ -70,7 +70,7 @@ bare? again = false
 bare? dropped = false
 bare? gone = false
 
--- "some vertex dropped"
+-- "some vertex dropped" (RULES 7.3)
 unfoldable pub dropped? : Stage → Bool
 dropped? bare = false
 dropped? waiting = false

@@ -1,4 +1,4 @@
--- Steps 2 to 6: the sweep.
+-- Steps 2 to 6: the sweep. (RULES 6.2 to 6.6)
 use Prim.Native.Nat.{_+_, _-_, max, min, suc, zero, ℕ}
 use Rattle.aig.specs.Literal.{literalOf, negate, vertexOf}
 use Rattle.aig.specs.Lookup.{firstWord, secondWord}
@@ -15,7 +15,7 @@ use lib.ListN.{length, replicate, set}
 use mathlib.Core.Bool.{Bool, _&&_, _||_, cond, false, not, true}
 use mathlib.Core.List.{List, [], _∷_}
 
--- "Replies: Equal; Different; Undecided", the second with its setting.
+-- "Replies: Equal; Different; Undecided", the second with its setting. (RULES 7.3)
 pub data Verdict : Type 0 where
   equal : Verdict
   different : Setting → Verdict
@@ -30,12 +30,12 @@ unfoldable pub andThen : Progress → (State → Progress) → Progress
 andThen (on s) next = next s
 andThen (ends x s) next = ends x s
 
--- "both have diagrams"
+-- "both have diagrams" (RULES 6.5)
 abbrev pub bothHave? : List Stage → ℕ → ℕ → Bool
 bothHave? stages l r = has? (stageOf stages (vertexOf l)) && has? (stageOf stages (vertexOf r))
 
 -- "2. If both outputs are now one reference, Equal. If they are inverse, Different with all inputs 0." "5. .. if both have diagrams
--- and are not one reference, Different.": two functions with diagrams are compared themselves.
+-- and are not one reference, Different.": two functions with diagrams are compared themselves. (RULES 6.2, 6.5)
 unfoldable pub lookAt : Problem → State → ℕ → ℕ → Progress
 lookAt p s l r =
     cond (eqb l r) (ends equal s)
@@ -48,7 +48,7 @@ lookAt p s l r =
 unfoldable pub look : Problem → State → Progress
 look p s = lookAt p s (resolve (s .rows) (p .left)) (resolve (s .rows) (p .right))
 
--- A vertex that got its diagram: mark "1 swept, or an input given its row", and it waits.
+-- A vertex that got its diagram: mark "1 swept, or an input given its row", and it waits. (RULES 6.4, 7.4)
 unfoldable pub swept : ℕ → State → State
 swept v s = withMark v 1 (withStages (set (s .stages) v waiting) s)
 
@@ -58,7 +58,7 @@ topPart (leaf b) = leaf b
 topPart (node f g) = cond (same? f g) (topPart f) (node f g)
 
 -- "3. .. Each input gets its row, upwards, and waits.": n inputs from vertex v on. A row limit that is passed is "Rows with the
--- vertex at which the row limit was passed", marked 3.
+-- vertex at which the row limit was passed", marked 3. (RULES 6.3, 7.3, 7.4)
 unfoldable pub giveRow : ℕ → State → Outcome → Progress
 giveRow v s (done b) = on (swept v (withBook b s))
 giveRow v s (shortOfRows b) = ends (undecided (Rows v)) (withMark v 3 s)
@@ -69,7 +69,7 @@ giveInputs p v zero s = on s
 giveInputs p v (suc n) s =
     andThen (giveRow v s (addPart (p .limits .rows) (topPart (functionOf p v)) (s .book))) (giveInputs p (suc v) n)
 
--- "If its function or the inverse belongs to a vertex with a diagram": the lowest such vertex of n from w on.
+-- "If its function or the inverse belongs to a vertex with a diagram": the lowest such vertex of n from w on. (RULES 6.4)
 pub data Candidate : Type 0 where
   at : ℕ → Candidate
   none : Candidate
@@ -80,7 +80,8 @@ twinFrom p stages v w (suc n) =
     let later = twinFrom p stages v (suc w) n in
     cond (has? (stageOf stages w) && alike? (functionOf p v) (functionOf p w)) (at w) later
 
--- "the two merge and normalising follows": the higher into the lower, inverted where the functions are inverse. "Otherwise it waits."
+-- "the two merge and normalising follows": the higher into the lower, inverted where the functions are inverse. "Otherwise it
+-- waits." (RULES 6.1, 6.4)
 unfoldable pub meet : Problem → ℕ → State → Candidate → State
 meet p v s none = swept v s
 meet p v s (at w) =
@@ -91,12 +92,12 @@ meet p v s (at w) =
 abbrev pub givenBack : Book → Book → Book
 givenBack old b = record { store = old .store; steps = b .steps }
 
--- "If its size exceeds the size limit it is dropped and its new rows are given back."
+-- "If its size exceeds the size limit it is dropped and its new rows are given back." (RULES 6.4)
 unfoldable pub dropVertex : ℕ → Book → State → State
 dropVertex v b s = withMark v 2 (withStages (set (s .stages) v dropped) (withBook (givenBack (s .book) b) s))
 
 -- A product's end: "2 product ended and too large", "1 swept", "3 the vertex named by Rows or Steps". "5. .. after every product the
--- outputs are looked at".
+-- outputs are looked at". (RULES 6.5, 7.4)
 unfoldable pub conclude : Problem → ℕ → State → Outcome → Progress
 conclude p v s (done b) =
     cond (ltb (p .limits .size) (size (functionOf p v)))
@@ -105,13 +106,13 @@ conclude p v s (done b) =
 conclude p v s (shortOfRows b) = ends (undecided (Rows v)) (withMark v 3 (withBook (givenBack (s .book) b) s))
 conclude p v s (shortOfSteps b) = ends (undecided (Steps v)) (withMark v 3 (withBook (givenBack (s .book) b) s))
 
--- "has its product taken": of the functions of the two operands.
+-- "has its product taken": of the functions of the two operands. (RULES 6.4)
 unfoldable pub multiply : Problem → ℕ → State → Progress
 multiply p v s =
     conclude p v s
     (run (p .limits .rows) (p .limits .steps) (literalFunction p (firstWord (s .rows) v)) (literalFunction p (secondWord (s .rows) v)) (s .book))
 
--- "each higher vertex with both operands open, without a diagram, not merged and not dropped"
+-- "each higher vertex with both operands open, without a diagram, not merged and not dropped" (RULES 6.4)
 unfoldable pub ready? : Problem → ℕ → State → Bool
 ready? p v s =
     leb (p .first) v && bare? (stageOf (s .stages) v)
@@ -121,12 +122,12 @@ ready? p v s =
 unfoldable pub visit : Problem → ℕ → State → Progress
 visit p v s = elim (ready? p v s) [ true ↦ multiply p v s | false ↦ on s ]
 
--- "Upwards, each higher vertex ..": n vertices from v on.
+-- "Upwards, each higher vertex ..": n vertices from v on. (RULES 6.4)
 unfoldable pub scanFrom : Problem → ℕ → ℕ → State → Progress
 scanFrom p v zero s = on s
 scanFrom p v (suc n) s = andThen (visit p v s) (scanFrom p (suc v) n)
 
--- "The waiting vertex of least size opens, lowest number on a tie.": of the stages from vertex v on.
+-- "The waiting vertex of least size opens, lowest number on a tie.": of the stages from vertex v on. (RULES 6.4)
 unfoldable pub smaller : Problem → ℕ → Candidate → ℕ
 smaller p v none = v
 smaller p v (at w) = cond (leb (size (functionOf p v)) (size (functionOf p w))) v w
@@ -137,7 +138,7 @@ pickFrom p v (x ∷ xs) =
     let later = pickFrom p (suc v) xs in
     cond (waits? x) (at (smaller p v later)) later
 
--- "4. The waiting vertex of least size opens .. Upwards, each higher vertex .."
+-- "4. The waiting vertex of least size opens .. Upwards, each higher vertex .." (RULES 6.4)
 unfoldable pub openAt : Problem → ℕ → State → Progress
 openAt p v s = scanFrom p (suc v) (length (s .stages) - suc v) (withStages (set (s .stages) v opened) s)
 
@@ -154,7 +155,7 @@ unfoldable pub turnsLeft : List Stage → ℕ
 turnsLeft [] = 0
 turnsLeft (x ∷ xs) = turnsOf x + turnsLeft xs
 
--- Turns until it ends or none waits.
+-- Turns until it ends or none waits. (RULES 6.6)
 unfoldable pub goFor : Problem → ℕ → State → Progress
 goFor p zero s = on s
 goFor p (suc n) s =
@@ -166,7 +167,7 @@ goFor p (suc n) s =
 unfoldable pub go : Problem → State → Progress
 go p s = goFor p (turnsLeft (s .stages)) s
 
--- "6. If none waits, the reply is Undecided.": "by Size (some vertex dropped, none waiting)", "Idle (none waits, none dropped)".
+-- "6. If none waits, the reply is Undecided.": "by Size (some vertex dropped, none waiting)", "Idle (none waits, none dropped)". (RULES 6.6, 7.3)
 unfoldable pub anyDropped? : List Stage → Bool
 anyDropped? [] = false
 anyDropped? (x ∷ xs) = dropped? x || anyDropped? xs
@@ -174,7 +175,7 @@ anyDropped? (x ∷ xs) = dropped? x || anyDropped? xs
 unfoldable pub cause : State → Cause
 cause s = cond (anyDropped? (s .stages)) Size Idle
 
--- "Marks, one byte a vertex, all written at a reply": all 0 at first. The constant "has a diagram of size 0 and never waits".
+-- "Marks, one byte a vertex, all written at a reply": all 0 at first. The constant "has a diagram of size 0 and never waits". (RULES 6.3, 7.4)
 unfoldable pub begin : Problem → List ℕ → State
 begin p rows =
     record {
@@ -184,7 +185,7 @@ begin p rows =
       book = record { store = []; steps = 0 };
     }
 
--- Steps 1, 2, 3 and 5.
+-- Steps 1, 2, 3 and 5. (RULES 6.1, 6.2, 6.3, 6.5)
 unfoldable pub start : Problem → List ℕ → Progress
 start p rows =
     andThen (look p (normalise (p .first) (begin p rows))) λ s.

@@ -1,4 +1,4 @@
--- Demand 1 for a table: one that keeps the paper's rules is not refused, and no other passes.
+-- Demand 1 for a table: one that keeps the rules is not refused, and no other passes.
 use Prim.Native.Nat.{_*_, _+_, _<_, ℕ}
 use Rattle.table.proofs.AcceptedLaws.{accepted, accepts, row-words-below}
 use Rattle.table.proofs.LayoutLaws.{length-output-words, length-rows, output-word-at, row-at}

@@ -1,4 +1,4 @@
--- A table that keeps the paper's rules, word by word and with the paper's own numbers.
+-- A table that keeps the rules, word by word and with the rules' own numbers. (RULES 4.1, 4.3)
 use Prim.Native.Nat.{_*_, _+_, _<_, _≤_, ℕ}
 use lib.ListN.{getD, length}
 use mathlib.Core.List.{List}
@@ -8,7 +8,7 @@ abbrev pub word : List ℕ → ℕ → ℕ
 word ws n = getD ws n 0
 
 -- "inputs; made; outputs; two words a made vertex; the first file's output references; the second file's", "0 to 64 inputs", "1 to 64
--- outputs", "6,144 ANDs", each reference "below twice its vertex's number (outputs: all vertices)".
+-- outputs", "6,144 ANDs", each reference "below twice its vertex's number (outputs: all vertices)". (RULES 2.1, 2.2, 4.1, 8.1)
 pub record Fits (ws : List ℕ) : Type 0 where
   pub header : 3 ≤ length ws
   pub inputs : word ws 0 ≤ 64

@@ -1,4 +1,4 @@
--- "Limits: file 65,536 bytes; 0 to 64 inputs; 0 to 4,096 gates a file; 1 to 64 outputs; 6,144 ANDs over both files"
+-- "Limits: file 65,536 bytes; 0 to 64 inputs; 0 to 4,096 gates a file; 1 to 64 outputs; 6,144 ANDs over both files" (RULES 2.1, 2.2)
 use Prim.Native.Nat.{ℕ}
 
 abbrev pub maxInputs : ℕ

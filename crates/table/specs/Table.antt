@@ -1,4 +1,4 @@
--- The table: its layout, the refusals 10 and 11, and its meaning.
+-- The table: its layout, the refusals 10 and 11, and its meaning. (RULES 4.1, 4.4, 8.1)
 use Prim.Native.Nat.{_*_, _+_, suc, zero, ℕ}
 use Rattle.aig.specs.Values.{literalValue}
 use Rattle.table.specs.Limits.{maxAnds, maxInputs, maxOutputs}
@@ -10,7 +10,7 @@ use lib.ListN.{drop, getD, length, take}
 use mathlib.Core.Bool.{Bool, _&&_, _||_, cond, false, not, true}
 use mathlib.Core.List.{List, [], _∷_}
 
--- "The lent table of 32-bit words then holds: inputs; made; outputs; ..": the three words of the header.
+-- "The lent table of 32-bit words then holds: inputs; made; outputs; ..": the three words of the header. (RULES 4.1)
 abbrev pub inputsOf : List ℕ → ℕ
 inputsOf ws = getD ws 0 0
 
@@ -20,11 +20,11 @@ madeOf ws = getD ws 1 0
 abbrev pub outputsOf : List ℕ → ℕ
 outputsOf ws = getD ws 2 0
 
--- "Vertex 0 is constant false, vertices 1 to inputs are the inputs", made vertices follow.
+-- "Vertex 0 is constant false, vertices 1 to inputs are the inputs", made vertices follow. (RULES 1.6, 4.3)
 abbrev pub verticesOf : List ℕ → ℕ
 verticesOf ws = 1 + inputsOf ws + madeOf ws
 
--- "two words a made vertex": the row that starts at a word.
+-- "two words a made vertex": the row that starts at a word. (RULES 4.1)
 abbrev pub rowAt : List ℕ → ℕ → Pair
 rowAt ws at = (getD ws at 0, getD ws (at + 1) 0)
 
@@ -33,11 +33,11 @@ unfoldable pub pairs : ℕ → List ℕ → List Pair
 pairs zero ws = []
 pairs (suc n) ws = (getD ws 0 0, getD ws 1 0) ∷ pairs n (drop 2 ws)
 
--- The rows stand after the header.
+-- The rows stand after the header. (RULES 4.1)
 unfoldable pub rowsOf : List ℕ → List Pair
 rowsOf ws = pairs (madeOf ws) (drop 3 ws)
 
--- "the first file's output references; the second file's"
+-- "the first file's output references; the second file's" (RULES 4.1)
 unfoldable pub outputWords : List ℕ → List ℕ
 outputWords ws = take (2 * outputsOf ws) (drop (3 + 2 * madeOf ws) ws)
 
@@ -53,11 +53,11 @@ sideOutputs ws side = take (outputsOf ws) (drop (sideStart ws side) (outputWords
 abbrev pub promised : ℕ → ℕ → ℕ
 promised made outputs = 3 + 2 * made + 2 * outputs
 
--- "has a header beyond the limits"
+-- "has a header beyond the limits" (RULES 8.1)
 unfoldable pub beyondLimits? : ℕ → ℕ → ℕ → Bool
 beyondLimits? inputs made outputs = ltb maxInputs inputs || ltb maxAnds made || eqb outputs 0 || ltb maxOutputs outputs
 
--- "10. The table is shorter than 3 words, has a header beyond the limits, or is shorter than its header says."
+-- "10. The table is shorter than 3 words, has a header beyond the limits, or is shorter than its header says." (RULES 8.1)
 unfoldable pub malformed? : List ℕ → Bool
 malformed? ws =
     ltb (length ws) 3
@@ -73,16 +73,16 @@ allBelow? n (r ∷ rs) = ltb r n && allBelow? n rs
 unfoldable pub rowBelow? : ℕ → Pair → Bool
 rowBelow? n r = ltb (r .0) n && ltb (r .1) n
 
--- Whether each row's literals are below twice the row's vertex, the first row being that of vertex v.
+-- Whether each row's literals are below twice the row's vertex, the first row being that of vertex v. (RULES 8.1)
 unfoldable pub downward? : ℕ → List Pair → Bool
 downward? v [] = true
 downward? v (r ∷ rs) = rowBelow? (2 * v) r && downward? (suc v) rs
 
--- "11. A table reference is not below twice its vertex's number (outputs: all vertices)."
+-- "11. A table reference is not below twice its vertex's number (outputs: all vertices)." (RULES 8.1)
 unfoldable pub outOfOrder? : List ℕ → Bool
 outOfOrder? ws = not (downward? (1 + inputsOf ws) (rowsOf ws) && allBelow? (2 * verticesOf ws) (outputWords ws))
 
--- Tests 10 and 11, for any words at all.
+-- Tests 10 and 11, for any words at all. (RULES 9.3, 9.4)
 abbrev pub tableTests : List ℕ → List (Test ℕ)
 tableTests ws = record { answer = 10; applies = malformed? ws } ∷ record { answer = 11; applies = outOfOrder? ws } ∷ []
 
@@ -97,7 +97,7 @@ pub record Graph : Type 0 where
 unfoldable pub graphOf : List ℕ → Graph
 graphOf ws = record { inputs = inputsOf ws; rows = rowsOf ws; left = sideOutputs ws 1; right = sideOutputs ws 2 }
 
--- "On a setting an input has its digit": the values of all vertices on a setting.
+-- "On a setting an input has its digit": the values of all vertices on a setting. (RULES 1.10, 4.4)
 unfoldable pub valuesOn : Graph → Setting → List Bool
 valuesOn g s = vertexValues not _&&_ false (false ∷ s) (g .rows)
 
@@ -105,7 +105,7 @@ valuesOn g s = vertexValues not _&&_ false (false ∷ s) (g .rows)
 unfoldable pub outputs : Graph → ℕ → List ℕ
 outputs g side = cond (eqb side 1) (g .left) (g .right)
 
--- "A table output's value is found likewise": output k of a side on a setting.
+-- "A table output's value is found likewise": output k of a side on a setting. (RULES 4.4)
 unfoldable pub outputValue : Graph → ℕ → ℕ → Setting → Bool
 outputValue g side k s = literalValue not _&&_ false (valuesOn g s) (getD (outputs g side) k 0)
 
@@ -114,7 +114,7 @@ unfoldable pub inputsFrom : ℕ → ℕ → ℕ → List Truth
 inputsFrom n i zero = []
 inputsFrom n i (suc k) = input n i ∷ inputsFrom n (suc i) k
 
--- "Vertex 0 is constant false, vertices 1 to inputs are the inputs": their functions.
+-- "Vertex 0 is constant false, vertices 1 to inputs are the inputs": their functions. (RULES 1.6)
 unfoldable pub firstFunctions : ℕ → List Truth
 firstFunctions n = inputsFrom n 0 (suc n)
 

@@ -4,12 +4,12 @@ use Rattle.aig.specs.Values.{literalValue}
 use mathlib.Core.List.{List, [], _++_, _∷_}
 use mathlib.Core.Path.{_≡_}
 
--- "two words a made vertex": its two literals.
+-- "two words a made vertex": its two literals. (RULES 4.1)
 abbrev pub Pair : Type 0
 Pair = ℕ × ℕ
 
 module _ {A : Type 0} (invert : A → A) (both : A → A → A) (falsum : A) where
-  -- "each row an `and`": the AND of the values of its two literals.
+  -- "each row an `and`": the AND of the values of its two literals. (RULES 4.4)
   abbrev pub rowValue : List A → Pair → A
   rowValue vs r = both (literalValue invert both falsum vs (r .0)) (literalValue invert both falsum vs (r .1))
 

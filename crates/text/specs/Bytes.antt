@@ -4,7 +4,7 @@ use lib.Dec.{eqb}
 use mathlib.Core.Bool.{Bool, _&&_, false, true}
 use mathlib.Core.List.{List, [], _∷_}
 
--- "where op is exactly the bytes `and`, `or` or `xor`": whether two byte strings are the same.
+-- "where op is exactly the bytes `and`, `or` or `xor`": whether two byte strings are the same. (RULES 1.4)
 abbrev pub sameBytes : List ℕ → List ℕ → Bool
 sameBytes [] [] = true
 sameBytes [] (y ∷ ys) = false

@@ -7,7 +7,7 @@ use lib.ListN.{getD, length}
 use mathlib.Core.Bool.{Bool, _&&_, cond, not, true}
 use mathlib.Core.List.{List, [], _∷_}
 
--- "1 to 6 digits": the most digits of a numeral.
+-- "1 to 6 digits": the most digits of a numeral. (RULES 1.2)
 abbrev pub MAX-DIGITS : ℕ
 MAX-DIGITS = 6
 
@@ -25,7 +25,7 @@ abbrev pub valueFrom : ℕ → List ℕ → ℕ
 valueFrom n [] = n
 valueFrom n (b ∷ bs) = valueFrom (n * 10 + (b - 48)) bs
 
--- "without leading zeros ("0" itself is allowed)": a zero before other bytes is a leading zero.
+-- "without leading zeros ("0" itself is allowed)": a zero before other bytes is a leading zero. (RULES 1.2)
 abbrev pub leadingZero : List ℕ → Bool
 leadingZero s = ltb 1 (length s) && eqb (getD s 0 0) 48
 
@@ -33,6 +33,6 @@ leadingZero s = ltb 1 (length s) && eqb (getD s 0 0) 48
 unfoldable pub digitsFrom : ℕ → List ℕ → Numeral
 digitsFrom n s = cond (allDigits s) (Value (valueFrom n s)) Malformed
 
--- "Numerals throughout are decimal, 1 to 6 digits, without leading zeros ("0" itself is allowed)."
+-- "Numerals throughout are decimal, 1 to 6 digits, without leading zeros ("0" itself is allowed)." (RULES 1.2)
 unfoldable pub numeralOf : List ℕ → Numeral
 numeralOf s = cond (leb 1 (length s) && leb (length s) MAX-DIGITS && not (leadingZero s)) (digitsFrom 0 s) Malformed

@@ -14,7 +14,7 @@ abbrev pub onFirst : ℕ → List (List ℕ) → List (List ℕ)
 onFirst b [] = (b ∷ []) ∷ []
 onFirst b (p ∷ ps) = (b ∷ p) ∷ ps
 
--- "fields parted by one tab (byte 9), each line ended by byte 10": the parts between the bytes `stop`, one more than there are of these.
+-- "fields parted by one tab (byte 9), each line ended by byte 10": the parts between the bytes `stop`, one more than there are of these. (RULES 1.1)
 abbrev pub splitAt : ℕ → List ℕ → List (List ℕ)
 splitAt stop [] = [] ∷ []
 splitAt stop (b ∷ bs) = cond (eqb b stop) ([] ∷ splitAt stop bs) (onFirst b (splitAt stop bs))

@@ -12,7 +12,7 @@ RADIX = 8192
 abbrev pub MARK : ℕ
 MARK = 4096
 
--- "The size or row limit is outside 1 to 32,768": the most rows.
+-- "The size or row limit is outside 1 to 32,768": the most rows. (RULES 2.4, 8.1)
 abbrev pub LIMIT : ℕ
 LIMIT = 32768
 

@@ -24,7 +24,7 @@ pub record Chains (rows : List ℕ) (limit n : ℕ) : Type 0 where
   pub next-bucket : (i : ℕ) → 1 ≤ i → i ≤ n → 1 ≤ nextAt rows i → bucketOf rows limit (nextAt rows i) ≡ bucketOf rows limit i
   pub next-highest : (i : ℕ) → 1 ≤ i → i ≤ n → (j : ℕ) → nextAt rows i < j → j < i → bucketOf rows limit j ≡ bucketOf rows limit i → ⊥
 
--- The slice has room for the limit's rows, of which n are used: "4 words a row of the limit".
+-- The slice has room for the limit's rows, of which n are used: "4 words a row of the limit". (RULES 8.2)
 pub record StoreRoom (rows : List ℕ) (limit n : ℕ) : Type 0 where
   pub used : n ≤ limit
   pub small : limit ≤ LIMIT

@@ -62,7 +62,7 @@ pub record Grown (s t : List ℕ) (limit n u : ℕ) : Type 0 where
   pub more : n ≤ u
   pub fresh : (i : ℕ) → n < i → i ≤ u → ownerAt t i ≡ 0
 
--- "each row is one distinct part": f added to the functions of the rows where it depends on its next input and is none of them.
+-- "each row is one distinct part": f added to the functions of the rows where it depends on its next input and is none of them. (RULES 6.7)
 unfoldable pub addPart : Truth → List Truth → List Truth
 addPart f store = cond (depends? f && not (among alike? f store)) (plain f ∷ store) store
 
@@ -77,7 +77,7 @@ pub record MadeAt (s t : List ℕ) (limit n level a b r u : ℕ) : Type 0 where
   pub denotes : denote t level r ≡ join s level a b
   pub functions : storeOf t u ≡ addPart (join s level a b) (storeOf s n)
 
--- "the row limit was passed": the function is a part that is not stored, and no row is left.
+-- "the row limit was passed": the function is a part that is not stored, and no row is left. (RULES 7.3)
 pub record MadeFull (s t : List ℕ) (limit n level a b : ℕ) : Type 0 where
   pub full : n ≡ limit
   pub depends : depends? (join s level a b) ≡ true
@@ -94,7 +94,7 @@ pub record Cleared (s t : List ℕ) (limit : ℕ) : Type 0 where
   pub exact : t ≡ emptied s limit
   pub store : Store t limit 0
 
--- "its new rows are given back": the store of the first n rows, as they were.
+-- "its new rows are given back": the store of the first n rows, as they were. (RULES 6.4)
 pub record GivenBack (s t : List ℕ) (limit u n : ℕ) : Type 0 where
   pub exact : t ≡ returned s limit u (u - n)
   pub store : Store t limit n

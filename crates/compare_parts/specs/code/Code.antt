@@ -34,11 +34,11 @@ given table output limits pairs look diagrams stages rows marks setting =
       setting = setting;
     }
 
--- What it gives back, in the paper's terms, and what three of its slices then hold.
+-- What it gives back, in the rules' terms, and what three of its slices then hold. (RULES 7.3, 8.1)
 abbrev pub left : Said → List ℕ → List ℕ → List ℕ → Left
 left said table marks setting = record { reply = said; table = table; marks = marks; setting = setting }
 
--- "refusals leaving all of them unchanged": the five slices to work in, before and after.
+-- "refusals leaving all of them unchanged": the five slices to work in, before and after. (RULES 8.3)
 pub record Unchanged (pairs pairs-after look look-after diagrams diagrams-after stages stages-after rows rows-after : List ℕ) : Type 0 where
   pub pairs-kept : pairs-after ≡ pairs
   pub look-kept : look-after ≡ look

@@ -4,7 +4,7 @@ use Rattle.aig.specs.Values.{AllGood, literalValue}
 use Rattle.table.specs.Values.{Pair, rowValue, vertexValues}
 use mathlib.Core.List.{List}
 
--- "plus 1 if inverted": 1 - x is the inversion of a 0 or 1.
+-- "plus 1 if inverted": 1 - x is the inversion of a 0 or 1. (RULES 1.7, 1.10)
 abbrev pub numberInvert : ℕ → ℕ
 numberInvert x = 1 - x
 
@@ -12,7 +12,7 @@ numberInvert x = 1 - x
 abbrev pub numberLiteral : List ℕ → ℕ → ℕ
 numberLiteral vs r = literalValue numberInvert _*_ 0 vs r
 
--- "each row an `and`": the value of a row.
+-- "each row an `and`": the value of a row. (RULES 4.4)
 abbrev pub numberRow : List ℕ → Pair → ℕ
 numberRow vs r = rowValue numberInvert _*_ 0 vs r
 

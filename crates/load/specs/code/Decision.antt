@@ -17,7 +17,7 @@ use lib.ListN.{length}
 use mathlib.Core.Bool.{_||_, not}
 use mathlib.Core.List.{List, [], _∷_}
 
--- "then 7, 8, 9, 14", by the counts of two accepted files.
+-- "then 7, 8, 9, 14", by the counts of two accepted files. (RULES 9.1)
 unfoldable pub pairDecision : Summary → Summary → LoadRoom → Decision
 pairDecision s t room =
     firstRefusal (Go s t)
@@ -27,7 +27,7 @@ pairDecision s t room =
     ∷ record { answer = Refused 14 0 0; applies = shortSlice? room }
     ∷ [])
 
--- "then 2 to 6 line by line, first file first"
+-- "then 2 to 6 line by line, first file first" (RULES 9.1)
 unfoldable pub readDecision : Checked → Checked → LoadRoom → Decision
 readDecision (checked.Refused k n) c room = Refused k 1 n
 readDecision (Accepted s) (checked.Refused k n) room = Refused k 2 n
@@ -42,7 +42,7 @@ checkedAs start (refused k n) = checked.Refused k n
 abbrev pub checkedFile : List ℕ → Checked
 checkedFile bytes = checkedAs (length (upTo 10 bytes) + 1) (checkFile bytes)
 
--- "Load tests 1 for both files"
+-- "Load tests 1 for both files" (RULES 9.1)
 unfoldable pub decision : List ℕ → List ℕ → LoadRoom → Decision
 decision left right room =
     firstRefusal (readDecision (checkedFile left) (checkedFile right) room)

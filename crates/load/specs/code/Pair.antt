@@ -25,7 +25,7 @@ pub record TableRoom (table pairs outputs first vertices count : ℕ) : Type 0 w
   pub sides : 2 * maxOutputs ≤ outputs
   pub room : 3 + (2 * vertices - 2 * first) + 2 * count ≤ table
 
--- Two files with some counts are loaded: they hold netlists, with equally many inputs and outputs, and few enough ANDs.
+-- Two files with some counts are loaded: they hold netlists, with equally many inputs and outputs, and few enough ANDs. (RULES 1.11, 2.2)
 pub record Agreed (one two : List ℕ) (s t : Summary) : Type 0 where
   pub left : HoldsNetlist one s (netlistOf one s)
   pub right : HoldsNetlist two t (netlistOf two t)
@@ -33,7 +33,7 @@ pub record Agreed (one two : List ℕ) (s t : Summary) : Type 0 where
   pub outputs : s .outputs ≡ t .outputs
   pub ands : s .ands + t .ands ≤ maxAnds
 
--- The working slices are long enough.
+-- The working slices are long enough. (RULES 8.2)
 pub record Enough (pairs look literals outputs : ℕ) : Type 0 where
   pub for-pairs : 2 * maxVertices ≤ pairs
   pub for-look : 2 * maxVertices ≤ look

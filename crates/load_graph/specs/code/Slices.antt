@@ -24,7 +24,7 @@ builtOf pairs a = record { literal = a .literal .0; build = buildOf pairs (a .co
 abbrev pub tracedOf : List ℕ → ℕ → List ℕ → Counts → Traced
 tracedOf literals n pairs c = record { literals = take n literals; build = buildOf pairs c }
 
--- "Each AND asked for is folded, found or made.": the counts after one more.
+-- "Each AND asked for is folded, found or made.": the counts after one more. (RULES 3.2, 3.8)
 abbrev pub countsAfter : Counts → Ended → Counts
 countsAfter c Folded = record { vertices = c .vertices; asked = c .asked + 1; folded = c .folded + 1; found = c .found }
 countsAfter c Found = record { vertices = c .vertices; asked = c .asked + 1; folded = c .folded; found = c .found + 1 }

@@ -8,7 +8,7 @@ use lib.ListN.{drop, getD, length}
 use mathlib.Core.List.{List, [], _++_, _∷_}
 use mathlib.Core.Path.{_≡_}
 
--- "two words a made vertex"
+-- "two words a made vertex" (RULES 4.1)
 unfoldable pub rowWords : List Pair → List ℕ
 rowWords [] = []
 rowWords (r ∷ rs) = r .0 ∷ r .1 ∷ rowWords rs

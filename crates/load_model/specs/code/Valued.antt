@@ -36,7 +36,7 @@ module _ {A : Type 0} (invert : A → A) (both : A → A → A) (falsum : A) whe
   abbrev pub operandsOf : List A → Pair → A × A
   operandsOf vs r = (literalValue invert both falsum vs (r .0), literalValue invert both falsum vs (r .1))
 
-  -- A gate's result, from the results of the ANDs that it stands for.
+  -- A gate's result, from the results of the ANDs that it stands for. (RULES 1.9)
   abbrev pub byAnds : Operation → A → A → A
   byAnds op x y = fromAnds invert falsum op (map (andResult both) (gateAnds invert both op x y))
 
@@ -55,7 +55,7 @@ module _ {A : Type 0} (invert : A → A) (both : A → A → A) (falsum : A) whe
     pub grown : Grown b rows c
     pub from : From (map (operandsOf vs) rows) ands
 
-  -- The outputs of both files have their files' values, given those of the constant and the inputs, and the rows come from their ANDs.
+  -- The outputs of both files have their files' values, given those of the constant and the inputs, and the rows come from their ANDs. (RULES 12.2)
   pub record PairMeans (operation : Operation → A → A → A) (vs us : List A) (d e : Netlist) : Type 0 where
     pub left : (k : ℕ) → k < length (d .outputs)
         → literalValue invert both falsum vs (getD (buildPair d e .left) k 0)

@@ -20,7 +20,7 @@ use mathlib.Core.Bool.{cond}
 use mathlib.Core.List.{List}
 use mathlib.Core.Path.{_≡_}
 
--- The record of the first of some bytes' lines: "2. The line is not an N, G or O record of this layout or has no end byte."
+-- The record of the first of some bytes' lines: "2. The line is not an N, G or O record of this layout or has no end byte." (RULES 8.1)
 unfoldable pub lineRecord : List ℕ → Record
 lineRecord bytes = cond (has 10 bytes) (recordOf (upTo 10 bytes)) Malformed
 

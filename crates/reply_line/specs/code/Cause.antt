@@ -6,14 +6,14 @@ use Rattle.report.specs.declared.fields.Word.{Word}
 use Rattle.sweep_model.specs.declared.Cause.the-variants.{Idle, Rows, Size, Steps}
 use Rattle.sweep_model.specs.declared.Cause.{Cause}
 
--- "reply word (.. size, rows, steps, idle)"
+-- "reply word (.. size, rows, steps, idle)" (RULES 11.4)
 abbrev pub causeWord : Cause → Word
 causeWord Size = word.Size
 causeWord (Rows v) = word.Rows
 causeWord (Steps v) = word.Steps
 causeWord Idle = word.Idle
 
--- "vertex named by Rows or Steps"
+-- "vertex named by Rows or Steps" (RULES 11.4)
 abbrev pub causeVertex : Cause → Vertex
 causeVertex Size = None
 causeVertex (Rows v) = At v

@@ -52,7 +52,7 @@ pub record Named (t : Task) : Type 0 where
 abbrev pub Between : ℕ → ℕ → Type 0
 Between n most = (1 ≤ n) × (n ≤ most)
 
--- "The size or row limit is outside 1 to 32,768, or the step limit outside 1 to 4,294,967,295.": they are not.
+-- "The size or row limit is outside 1 to 32,768, or the step limit outside 1 to 4,294,967,295.": they are not. (RULES 2.4, 8.1)
 pub record Limited (t : Task) : Type 0 where
   pub size : Between (t .size) LIMIT
   pub rows : Between (t .rows) LIMIT

@@ -1,4 +1,4 @@
--- "4. The waiting vertex of least size opens, lowest number on a tie.": by the words of stages and sizes.
+-- "4. The waiting vertex of least size opens, lowest number on a tie.": by the words of stages and sizes. (RULES 6.4)
 use Prim.Native.Nat.{_*_, _+_, _<_, suc, zero, ℕ}
 use Rattle.aig.specs.Lookup.{firstWord, secondWord}
 use Rattle.sweep_graph.specs.code.Stages.{wordStage}

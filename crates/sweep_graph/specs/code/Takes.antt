@@ -1,4 +1,5 @@
--- "each vertex that others were merged into, if either had a diagram, takes it and waits again": by words. The model has the stages alone.
+-- "each vertex that others were merged into, if either had a diagram, takes it and waits again": by words. The model has the
+-- stages alone. (RULES 6.4)
 use Prim.Native.Nat.{_*_, _+_, _/_, _<_, _≤_, suc, zero, ℕ}
 use Rattle.aig.specs.Literal.{vertexOf}
 use Rattle.aig.specs.Lookup.{firstWord, secondWord, withRow}
@@ -26,16 +27,16 @@ held stages diagrams rows = record { stages = stages; diagrams = diagrams; rows 
 abbrev pub hasWord : List ℕ → ℕ → Bool
 hasWord stages v = has? (wordStage (firstWord stages v))
 
--- Vertex w waits again. The constant "never waits".
+-- Vertex w waits again. The constant "never waits". (RULES 6.3)
 unfoldable pub wakeWords : ℕ → List ℕ → List ℕ
 wakeWords w stages = cond (eqb w 0) stages (withStage stages w (stageWord (wake (wordStage (firstWord stages w)))))
 
--- Vertex v, merged into the literal x, gives its diagram to x's vertex, inverted where x is, unless that has one.
+-- Vertex v, merged into the literal x, gives its diagram to x's vertex, inverted where x is, unless that has one. (RULES 6.4)
 unfoldable pub takenDiagrams : ℕ → ℕ → List ℕ → List ℕ → List ℕ
 takenDiagrams v x stages diagrams =
     cond (hasWord stages (vertexOf x)) diagrams (withRow diagrams (vertexOf x) (edge (firstWord diagrams v) x) (secondWord diagrams v))
 
--- If v has a diagram, x's vertex takes it and owns its row; if either has one, x's vertex waits again.
+-- If v has a diagram, x's vertex takes it and owns its row; if either has one, x's vertex waits again. (RULES 6.4)
 unfoldable pub handedOver : ℕ → ℕ → Held → Held
 handedOver v x h =
     cond (hasWord (h .stages) v)

@@ -1,5 +1,5 @@
 -- What holds of every state that the sweep reaches: marks, rows and steps agree, the rows of vertices with diagrams are stored, no two such
--- vertices are alike. No sentence of the paper is stated by this: it serves the proofs of laws and of code.
+-- vertices are alike. No sentence of the rules is stated by this: it serves the proofs of laws and of code.
 use Prim.Native.Nat.{_<_, _≤_, ℕ}
 use Rattle.product_model.specs.code.Books.{HoldsParts, Proper, Stored}
 use Rattle.product_model.specs.Run.{Book}

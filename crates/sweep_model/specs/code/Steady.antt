@@ -1,4 +1,4 @@
--- What holds of the rows and the stages of every state that the sweep reaches. No sentence of the paper is stated by this: it serves the proofs
+-- What holds of the rows and the stages of every state that the sweep reaches. No sentence of the rules is stated by this: it serves the proofs
 -- of laws and of code.
 use Prim.Native.Nat.{_<_, _≤_, ℕ}
 use Rattle.aig.specs.Fold.{Unfolded}

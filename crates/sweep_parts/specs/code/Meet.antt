@@ -17,7 +17,7 @@ use mathlib.Core.List.{List}
 use mathlib.Core.Logic.{_≢_}
 use mathlib.Core.Path.{_≡_}
 
--- "If its function or the inverse belongs to a vertex with a diagram": the owner of the row; the constant's row is not stored.
+-- "If its function or the inverse belongs to a vertex with a diagram": the owner of the row; the constant's row is not stored. (RULES 6.4)
 unfoldable pub twinAt : List ℕ → ℕ → Twin
 twinAt rows reference =
     cond (eqb (reference / 2) 0) (At 0) (cond (eqb (ownerAt rows (reference / 2)) 0) None (At (ownerAt rows (reference / 2))))
@@ -26,11 +26,11 @@ twinAt rows reference =
 unfoldable pub inverse? : List ℕ → ℕ → ℕ → Bool
 inverse? diagrams v w = not (eqb (firstWord diagrams v) (firstWord diagrams w))
 
--- The higher of two vertices has the row of one merged into the lower.
+-- The higher of two vertices has the row of one merged into the lower. (RULES 6.1)
 unfoldable pub joined : List ℕ → ℕ → ℕ → Bool → List ℕ
 joined pairs v w inverted = mergedInto pairs (max v w) (literalOf (min v w) inverted)
 
--- "the two merge and normalising follows"
+-- "the two merge and normalising follows" (RULES 6.4)
 abbrev pub mergedPairs : Task → ℕ → ℕ → List ℕ → List ℕ → List ℕ
 mergedPairs t v w pairs diagrams = normaliseFrom (joined pairs v w (inverse? diagrams v w)) (t .first) (t .count - t .first)
 

@@ -64,7 +64,7 @@ pub record EndedIn (t : Task) (v reference used kept : ℕ) (b : Workspace) : Ty
   pub setting : BeforeProduct
   pub ended : Ended t setting v reference used kept b
 
--- "If its size exceeds the size limit it is dropped and its new rows are given back.", else it is met.
+-- "If its size exceeds the size limit it is dropped and its new rows are given back.", else it is met. (RULES 6.4)
 abbrev pub settledState : Task → BeforeProduct → ℕ → ℕ → ℕ → Workspace → State
 settledState t x v used kept b =
     let p = posed t (x .functions) in

@@ -49,7 +49,7 @@ pub record AllGiven (t : Task) (x : InputContext) (a : Arrays) (used : ℕ) (b :
   pub reached : givingFrom t x a used 1 ≡ on (stateIn t x b more)
   pub given : GivenTo t x b more (t .first)
 
--- "Rows with the vertex at which the row limit was passed".
+-- "Rows with the vertex at which the row limit was passed". (RULES 7.3)
 abbrev pub ShortAt : Task → InputContext → Arrays → ℕ → Arrays → ℕ → ℕ → Type 0
 ShortAt t x a used b v more = Ends t (x .functions) (givingFrom t x a used 1) (workspace (x .pairs) b) more (x .steps) (Undecided (Rows v))
 

@@ -57,7 +57,7 @@ pub record GivingIn (t : Task) (b : Workspace) : Type 0 where
   pub entry : List ℕ
   pub prepared : Prepared t functions entry b
 
--- "3. .. Each input gets its row, upwards, and waits." and the look that follows.
+-- "3. .. Each input gets its row, upwards, and waits." and the look that follows. (RULES 6.3, 6.5)
 abbrev pub inputsGiven : Task → List Truth → Workspace → Progress
 inputsGiven t functions b =
     let p = posed t functions in
@@ -74,7 +74,7 @@ GivesInputs t b after (On used steps) =
 GivesInputs t b after (Ended e used steps) =
     (functions : List Truth) (entry : List ℕ) → Prepared t functions entry b → Ends t functions (inputsGiven t functions b) after used steps e
 
--- Steps 1, 2, 3 and 5.
+-- Steps 1, 2, 3 and 5. (RULES 6.1, 6.2, 6.3, 6.5)
 abbrev pub Starts : Task → Workspace → Workspace → Going → Type 0
 Starts t b after (On used steps) =
     (functions : List Truth) → HasFunctions t functions (b .pairs)

@@ -30,7 +30,7 @@ use mathlib.Core.Path.{_≡_}
 abbrev pub openWord : List ℕ → ℕ → Bool
 openWord stages v = open? (wordStage (firstWord stages v))
 
--- "each higher vertex with both operands open, without a diagram, not merged and not dropped"
+-- "each higher vertex with both operands open, without a diagram, not merged and not dropped" (RULES 6.4)
 unfoldable pub readyAt : Task → ℕ → List ℕ → List ℕ → Bool
 readyAt t v pairs stages =
     leb (t .first) v && bare? (wordStage (firstWord stages v)) && openWord stages (vertexOf (firstWord pairs v)) && openWord stages (vertexOf (secondWord pairs v))
