@@ -9,11 +9,10 @@ use Rattle.load.specs.declared.decision.Decision.the-variants.{Go, Refus
 use Rattle.load.specs.declared.decision.Decision.{Decision}
 use Rattle.netlist.proofs.Choices.{cond-cases}
 use Rattle.netlist.proofs.ReadLaws.{accepted-holds}
-use Rattle.netlist.specs.code.Accepted.{HoldsNetlist}
+use Rattle.netlist.specs.code.Accepted.{HoldsNetlist, countsIn}
 use Rattle.netlist.specs.Check as check
-use Rattle.netlist.specs.Check.{answerOf, checkFile, readBy, readNetlist}
+use Rattle.netlist.specs.Check.{answerOf, checkFile, readBy, readNetlist, summaryCounts}
 use Rattle.netlist.specs.Limits.{maxBytes}
-use Rattle.netlist.specs.Meaning.{andCount}
 use Rattle.netlist.specs.code.Passing.{StartsAt}
 use Rattle.netlist.specs.declared.check.Checked.the-variants as checked
 use Rattle.netlist.specs.declared.check.Checked.{Checked}
@@ -83,26 +82,29 @@ module _ (left right : List ℕ) (room : LoadRoom) where
       unfolding netlistOf
       right-holds = accepted-holds right t of-right starts-right
 
+      left-counts : summaryCounts s ≡ countsIn (netlistOf left s)
+      left-counts = ap summaryCounts (left-holds .counts)
+
+      right-counts : summaryCounts t ≡ countsIn (netlistOf right t)
+      right-counts = ap summaryCounts (right-holds .counts)
+
       result-pair :
           loadResult left right room
-          ≡ firstRefusal (accepted (tallyOf (netlistOf left s) (netlistOf right t))) (pairTests (netlistOf left s) (netlistOf right t) room)
+          ≡ firstRefusal (accepted (tallyOf (netlistOf left s) (netlistOf right t))) (pairTests refused (summaryCounts s) (summaryCounts t) room)
       unfolding readResult
-      result-pair = result-read ∙ rw (left-holds .reads, right-holds .reads) refl
-
-      differ : countsDiffer? (netlistOf left s) (netlistOf right t) ≡ (not (eqb (s .inputs) (t .inputs)) || not (eqb (s .outputs) (t .outputs)))
-      unfolding countsDiffer? netlistOf
-      differ = rw (← ap (λ (x : Summary). x .outputs) (left-holds .counts), ← ap (λ (x : Summary). x .outputs) (right-holds .counts)) refl
-
-      many : ltb maxAnds (andCount (netlistOf left s .gates) + andCount (netlistOf right t .gates)) ≡ ltb maxAnds (s .ands + t .ands)
-      many = rw (← ap (λ (x : Summary). x .ands) (left-holds .counts), ← ap (λ (x : Summary). x .ands) (right-holds .counts)) refl
+      result-pair =
+          result-read
+          ∙ rw (left-holds .reads, right-holds .reads)
+          (ap₂ (λ (c d : check.Counts). firstRefusal (accepted (tallyOf (netlistOf left s) (netlistOf right t))) (pairTests refused c d room)) (sym left-counts)
+          (sym right-counts))
 
       pair-says : Says (pairDecision s t room)
-      unfolding pairDecision firstRefusal
+      unfolding pairDecision firstRefusal countsDiffer?
       pair-says =
-          cond-cases Says (not (eqb (s .inputs) (t .inputs)) || not (eqb (s .outputs) (t .outputs))) (λ h. result-pair ∙ rw (differ, h) refl) λ one.
-          cond-cases Says (ltb maxAnds (s .ands + t .ands)) (λ h. result-pair ∙ rw (differ, one, many, h) refl) λ two.
-          cond-cases Says (ltb (room .table) maxTable) (λ h. result-pair ∙ rw (differ, one, many, two, h) refl) λ three.
-          cond-cases Says (shortSlice? room) (λ h. result-pair ∙ rw (differ, one, many, two, three, h) refl) λ four.
+          cond-cases Says (not (eqb (s .inputs) (t .inputs)) || not (eqb (s .outputs) (t .outputs))) (λ h. result-pair ∙ rw h refl) λ one.
+          cond-cases Says (ltb maxAnds (s .ands + t .ands)) (λ h. result-pair ∙ rw (one, h) refl) λ two.
+          cond-cases Says (ltb (room .table) maxTable) (λ h. result-pair ∙ rw (one, two, h) refl) λ three.
+          cond-cases Says (shortSlice? room) (λ h. result-pair ∙ rw (one, two, three, h) refl) λ four.
           record {
             agreed =
                 record {
@@ -114,7 +116,7 @@ module _ (left right : List ℕ) (room : LoadRoom) where
                 };
             enough = not-short four;
             table = ltb-false _ _ three;
-            result = result-pair ∙ rw (differ, one, many, two, three, four) refl;
+            result = result-pair ∙ rw (one, two, three, four) refl;
           }
 
     read-says : (c e : check.Answer) → checkFile left ≡ c → checkFile right ≡ e

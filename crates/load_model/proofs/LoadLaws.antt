@@ -4,6 +4,7 @@ use Rattle.load_model.specs.Load.{LoadRoom, accepted, countsDiffer?, len
 use Rattle.load_model.specs.Loadable.{Enough, Loadable, Loads}
 use Rattle.load_model.specs.declared.Tally.{Tally}
 use Rattle.netlist.proofs.ReadLaws.{read-back, read-only}
+use Rattle.netlist.specs.Accepted.{countsIn}
 use Rattle.netlist.specs.Check.{Read, read, readNetlist, unread}
 use Rattle.netlist.specs.Limits.{maxBytes}
 use Rattle.netlist.specs.Meaning.{andCount}
@@ -20,7 +21,7 @@ use mathlib.Core.Path.{_≡_, refl}
 use native.Mathlib.Omega.{arith}
 
 -- The tests of two netlists that are within the limits do not apply.
-counts-agree : {d e : Netlist} → Loadable d e → countsDiffer? d e ≡ false
+counts-agree : {d e : Netlist} → Loadable d e → countsDiffer? (countsIn d) (countsIn e) ≡ false
 unfolding countsDiffer?
 counts-agree {d} {e} h = rw (eq-eqb (d .inputs) (e .inputs) (h .inputs), eq-eqb (length (d .outputs)) (length (e .outputs)) (h .outputs))
 
@@ -94,7 +95,7 @@ none-applied a r (t ∷ ts) apart e = go (t .applies) refl e (none-applied a r t
 refusal-apart : {k f n : ℕ} {t : Tally} → refused k f n ≡ accepted t → ⊥
 refusal-apart e = let z : _≡_ {A = ℕ} 0 1 = cc in omega arith
 
-counts-agreed : (d e : Netlist) → countsDiffer? d e ≡ false → (d .inputs ≡ e .inputs) × (length (d .outputs) ≡ length (e .outputs))
+counts-agreed : (d e : Netlist) → countsDiffer? (countsIn d) (countsIn e) ≡ false → (d .inputs ≡ e .inputs) × (length (d .outputs) ≡ length (e .outputs))
 unfolding countsDiffer?
 counts-agreed d e h =
     let i = eqb (d .inputs) (e .inputs) in
@@ -123,7 +124,7 @@ slices-sufficed room table h =
 pub load-only : (left right : List ℕ) (room : LoadRoom) (t : Tally) → loadResult left right room ≡ accepted t → Loads left right room t
 unfolding loadResult readResult
 load-only left right room t h =
-    let p = none-applied (readResult room (readNetlist left) (readNetlist right)) (accepted t) (lengthTests left right) (refusal-apart, (refusal-apart, tt)) h in
+    let p = none-applied (readResult room (readNetlist left) (readNetlist right)) (accepted t) (lengthTests refused left right) (refusal-apart, (refusal-apart, tt)) h in
     go (readNetlist left) (readNetlist right) refl refl (ltb-false maxBytes (length left) (p .0 .0)) (ltb-false maxBytes (length right) (p .0 .1 .0)) (p .1)
   where
     go : (x y : Read) → readNetlist left ≡ x → readNetlist right ≡ y → length left ≤ maxBytes → length right ≤ maxBytes
@@ -131,7 +132,7 @@ load-only left right room t h =
     go (unread k n) y f g l r e = absurd (refusal-apart e)
     go (read d) (unread k n) f g l r e = absurd (refusal-apart e)
     go (read d) (read c) f g l r e =
-        let q = none-applied (accepted (tallyOf d c)) (accepted t) (pairTests d c room) (refusal-apart, (refusal-apart, (refusal-apart, (refusal-apart, tt)))) e in
+        let q = none-applied (accepted (tallyOf d c)) (accepted t) (pairTests refused (countsIn d) (countsIn c) room) (refusal-apart, (refusal-apart, (refusal-apart, (refusal-apart, tt)))) e in
         let agreed = counts-agreed d c (q .0 .0) in
         record {
           first = d;

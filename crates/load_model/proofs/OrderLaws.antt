@@ -1,6 +1,7 @@
 -- The order of load's own tests, in the rules' numbers: each refusal is said where its sentence holds and none of those before it does.
 use Prim.Native.Nat.{_+_, _<_, _≤_, ℕ}
 use Rattle.load_model.specs.Load.{LoadRoom, countsDiffer?, loadResult, maxTable, readResult, refused, shortSlice?}
+use Rattle.netlist.specs.code.Accepted.{countsIn}
 use Rattle.netlist.specs.Check.{read, readNetlist}
 use Rattle.netlist.specs.Limits.{maxBytes}
 use Rattle.netlist.specs.Meaning.{andCount}
@@ -43,7 +44,7 @@ module _ {left right : List ℕ} {d e : Netlist} (room : LoadRoom) (h : BothRead
   unfolding loadResult firstRefusal
   all-read = rw (le-ltb maxBytes (length left) (h .first-length), le-ltb maxBytes (length right) (h .second-length), h .first-read, h .second-read) refl
 
-  counts-told : countsDiffer? d e ≡ true → loadResult left right room ≡ refused 7 2 1
+  counts-told : countsDiffer? (countsIn d) (countsIn e) ≡ true → loadResult left right room ≡ refused 7 2 1
   unfolding readResult firstRefusal
   counts-told c = all-read ∙ (rw c refl)
 
@@ -61,7 +62,7 @@ module _ {left right : List ℕ} {d e : Netlist} (room : LoadRoom) (h : BothRead
       (ap not (ne-eqb (length (d .outputs)) (length (e .outputs)) n)))
 
   module _ (same : SameCounts d e) where
-    counts-same : countsDiffer? d e ≡ false
+    counts-same : countsDiffer? (countsIn d) (countsIn e) ≡ false
     unfolding countsDiffer?
     counts-same = rw (eq-eqb (d .inputs) (e .inputs) (same .inputs), eq-eqb (length (d .outputs)) (length (e .outputs)) (same .outputs))
 

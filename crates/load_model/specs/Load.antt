@@ -4,9 +4,9 @@ use Rattle.load_model.specs.Build.{PairBuilt, buildPair}
 use Rattle.load_model.specs.declared.Loaded.the-variants.{Accepted, Refused}
 use Rattle.load_model.specs.declared.Loaded.{Loaded}
 use Rattle.load_model.specs.declared.Tally.{Tally}
-use Rattle.netlist.specs.Check.{Read, read, readNetlist, unread}
+use Rattle.netlist.specs.code.Accepted.{countsIn}
+use Rattle.netlist.specs.Check.{Counts, Read, read, readNetlist, unread}
 use Rattle.netlist.specs.Limits.{maxBytes}
-use Rattle.netlist.specs.Meaning.{andCount}
 use Rattle.netlist.specs.Netlist.{Netlist}
 use Rattle.table.specs.Limits.{maxAnds, maxInputs, maxOutputs}
 use Rattle.table.specs.Refusals.{Test, firstRefusal}
@@ -42,29 +42,29 @@ abbrev pub answerOf : Loaded → Answer
 answerOf (Accepted t) = accepted t
 answerOf (Refused k f n) = refused k f n
 
--- "1. The file is longer than 65,536 bytes.", for both files. (RULES 8.1, 9.1)
-abbrev pub lengthTests : List ℕ → List ℕ → List (Test Answer)
-lengthTests left right =
-    record { answer = refused 1 1 0; applies = ltb maxBytes (length left) }
-    ∷ record { answer = refused 1 2 0; applies = ltb maxBytes (length right) }
+-- "1. The file is longer than 65,536 bytes.", for both files; `refuse` is given the number, the file and the line.
+abbrev pub lengthTests : {A : Type 0} → (ℕ → ℕ → ℕ → A) → List ℕ → List ℕ → List (Test A)
+lengthTests refuse left right =
+    record { answer = refuse 1 1 0; applies = ltb maxBytes (length left) }
+    ∷ record { answer = refuse 1 2 0; applies = ltb maxBytes (length right) }
     ∷ []
 
 -- "7. Input or output counts differ (file 2, line 1, after both files are read)." (RULES 8.1)
-unfoldable pub countsDiffer? : Netlist → Netlist → Bool
-countsDiffer? d e = not (eqb (d .inputs) (e .inputs)) || not (eqb (length (d .outputs)) (length (e .outputs)))
+unfoldable pub countsDiffer? : Counts → Counts → Bool
+countsDiffer? c d = not (eqb (c .inputs) (d .inputs)) || not (eqb (c .outputs) (d .outputs))
 
 -- "14. A working slice is short: four slices of 2 words a vertex (load: for 6,209 vertices)" (RULES 8.1, 8.2)
 unfoldable pub shortSlice? : LoadRoom → Bool
 shortSlice? r =
     ltb (r .pairs) (2 * maxVertices) || ltb (r .look) (2 * maxVertices) || ltb (r .literals) (2 * maxVertices) || ltb (r .outputs) (2 * maxVertices)
 
--- "then 7, 8, 9, 14": "8. The ANDs exceed 6,144. 9. The table is shorter than 12,419 words." (RULES 8.1, 9.1)
-abbrev pub pairTests : Netlist → Netlist → LoadRoom → List (Test Answer)
-pairTests d e room =
-    record { answer = refused 7 2 1; applies = countsDiffer? d e }
-    ∷ record { answer = refused 8 0 0; applies = ltb maxAnds (andCount (d .gates) + andCount (e .gates)) }
-    ∷ record { answer = refused 9 0 0; applies = ltb (room .table) maxTable }
-    ∷ record { answer = refused 14 0 0; applies = shortSlice? room }
+-- "then 7, 8, 9, 14": "8. The ANDs exceed 6,144. 9. The table is shorter than 12,419 words.", by the counts of both files.
+abbrev pub pairTests : {A : Type 0} → (ℕ → ℕ → ℕ → A) → Counts → Counts → LoadRoom → List (Test A)
+pairTests refuse c d room =
+    record { answer = refuse 7 2 1; applies = countsDiffer? c d }
+    ∷ record { answer = refuse 8 0 0; applies = ltb maxAnds (c .ands + d .ands) }
+    ∷ record { answer = refuse 9 0 0; applies = ltb (room .table) maxTable }
+    ∷ record { answer = refuse 14 0 0; applies = shortSlice? room }
     ∷ []
 
 -- "The result carries asked, folded, found and made" (RULES 3.8)
@@ -77,11 +77,11 @@ tallyOf d e =
 unfoldable pub readResult : LoadRoom → Read → Read → Answer
 readResult room (unread k n) e = refused k 1 n
 readResult room (read d) (unread k n) = refused k 2 n
-readResult room (read d) (read e) = firstRefusal (accepted (tallyOf d e)) (pairTests d e room)
+readResult room (read d) (read e) = firstRefusal (accepted (tallyOf d e)) (pairTests refused (countsIn d) (countsIn e) room)
 
 -- "Load tests 1 for both files, then 2 to 6 line by line, first file first, then 7, 8, 9, 14, and names file and line" (RULES 8.1, 9.1)
 unfoldable pub loadResult : List ℕ → List ℕ → LoadRoom → Answer
-loadResult left right room = firstRefusal (readResult room (readNetlist left) (readNetlist right)) (lengthTests left right)
+loadResult left right room = firstRefusal (readResult room (readNetlist left) (readNetlist right)) (lengthTests refused left right)
 
 -- "The lent table of 32-bit words then holds: inputs; made; outputs; two words a made vertex; the first file's output references; the
 -- second file's." (RULES 4.1)

@@ -9,6 +9,7 @@ use Rattle.netlist.specs.declared.check.Checked.the-variants.{Accepted, 
 use Rattle.netlist.specs.declared.check.Checked.{Checked}
 use Rattle.netlist.specs.declared.check.Due.the-variants.{First, Later}
 use Rattle.netlist.specs.declared.check.Due.{Due}
+use Rattle.netlist.specs.declared.check.Summary.{Summary}
 use Rattle.netlist.specs.declared.records.Operation.the-variants.{And, Or, Xor}
 use Rattle.netlist.specs.declared.records.Operation.{Operation}
 use Rattle.netlist.specs.declared.records.Record.the-variants.{Gate, Header, Malformed, Output}
@@ -128,9 +129,13 @@ pub data Answer : Type 0 where
   accepted : Counts → Answer
   refused : ℕ → ℕ → Answer
 
+-- The counts of a summary.
+abbrev pub summaryCounts : Summary → Counts
+summaryCounts s = record { inputs = s .inputs; gates = s .gates; outputs = s .outputs; ands = s .ands }
+
 -- The rules' number and values for each case of the result. (RULES 8.1)
 abbrev pub answerOf : Checked → Answer
-answerOf (Accepted s) = accepted (record { inputs = s .inputs; gates = s .gates; outputs = s .outputs; ands = s .ands })
+answerOf (Accepted s) = accepted (summaryCounts s)
 answerOf (Refused k n) = refused k n
 
 -- The counts when all lines are passed.

@@ -1,31 +1,22 @@
 -- What load decides before it writes: a refusal, or that two files with some counts are loaded.
 use Prim.Native.Nat.{_+_, ℕ}
-use Rattle.load_model.specs.Load.{LoadRoom, maxTable, shortSlice?}
+use Rattle.load_model.specs.Load.{LoadRoom, lengthTests, pairTests}
 use Rattle.load.specs.declared.decision.Decision.the-variants.{Go, Refused}
 use Rattle.load.specs.declared.decision.Decision.{Decision}
-use Rattle.netlist.specs.Check.{Answer, accepted, checkFile, refused}
-use Rattle.netlist.specs.Limits.{maxBytes}
+use Rattle.netlist.specs.Check.{Answer, accepted, checkFile, refused, summaryCounts}
 use Rattle.netlist.specs.declared.check.Checked.the-variants as checked
 use Rattle.netlist.specs.declared.check.Checked.the-variants.{Accepted}
 use Rattle.netlist.specs.declared.check.Checked.{Checked}
 use Rattle.netlist.specs.declared.check.Summary.{Summary}
-use Rattle.table.specs.Limits.{maxAnds}
 use Rattle.table.specs.Refusals.{firstRefusal}
 use Rattle.text.specs.Split.{upTo}
-use lib.Dec.{eqb, ltb}
 use lib.ListN.{length}
-use mathlib.Core.Bool.{_||_, not}
-use mathlib.Core.List.{List, [], _∷_}
+use mathlib.Core.List.{List}
 
 -- "then 7, 8, 9, 14", by the counts of two accepted files. (RULES 9.1)
 unfoldable pub pairDecision : Summary → Summary → LoadRoom → Decision
 pairDecision s t room =
-    firstRefusal (Go s t)
-    (record { answer = Refused 7 2 1; applies = not (eqb (s .inputs) (t .inputs)) || not (eqb (s .outputs) (t .outputs)) }
-    ∷ record { answer = Refused 8 0 0; applies = ltb maxAnds (s .ands + t .ands) }
-    ∷ record { answer = Refused 9 0 0; applies = ltb (room .table) maxTable }
-    ∷ record { answer = Refused 14 0 0; applies = shortSlice? room }
-    ∷ [])
+    firstRefusal (Go s t) (pairTests Refused (summaryCounts s) (summaryCounts t) room)
 
 -- "then 2 to 6 line by line, first file first" (RULES 9.1)
 unfoldable pub readDecision : Checked → Checked → LoadRoom → Decision
@@ -45,7 +36,4 @@ checkedFile bytes = checkedAs (length (upTo 10 bytes) + 1) (checkFile bytes)
 -- "Load tests 1 for both files" (RULES 9.1)
 unfoldable pub decision : List ℕ → List ℕ → LoadRoom → Decision
 decision left right room =
-    firstRefusal (readDecision (checkedFile left) (checkedFile right) room)
-    (record { answer = Refused 1 1 0; applies = ltb maxBytes (length left) }
-    ∷ record { answer = Refused 1 2 0; applies = ltb maxBytes (length right) }
-    ∷ [])
+    firstRefusal (readDecision (checkedFile left) (checkedFile right) room) (lengthTests Refused left right)
