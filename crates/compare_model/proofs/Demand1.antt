@@ -1,6 +1,6 @@
--- Demand 1 for a comparison: a good call is not refused.
+-- Demand 1 for a comparison: a good call is not refused, and no other is answered.
 use Prim.Native.Nat.{_*_, ℕ}
-use Rattle.compare_model.proofs.RefusalLaws.{compared-answered}
+use Rattle.compare_model.proofs.RefusalLaws.{compared-answered, passed}
 use Rattle.compare_model.specs.Compare.{CompareRoom, Given, answerTo, answered, beyond?, callTests, compared, outside?, refusalOf, saidBy, shortSlice?, sliceWords}
 use Rattle.compare_model.specs.Demand1.{Answers, Good, says-different, says-equal, says-idle, says-rows, says-size, says-steps}
 use Rattle.compare_model.specs.Passed.{Enough, LimitsWithin, Passed, Within}
@@ -8,7 +8,7 @@ use Rattle.sweep_model.specs.State.{Limits}
 use Rattle.sweep_model.specs.Sweep.{Verdict, different, equal, undecided}
 use Rattle.sweep_model.specs.declared.Cause.the-variants.{Idle, Rows, Size, Steps}
 use Rattle.table.proofs.AcceptedLaws.{accepts}
-use Rattle.table.proofs.FitsLaws.{fits-accepted}
+use Rattle.table.proofs.FitsLaws.{fits-accepted, passed-fits}
 use Rattle.table.proofs.RefusalLaws.{table-passed}
 use Rattle.table.specs.Refusals.{firstRefusal}
 use Rattle.table.specs.Table.{inputsOf, outputsOf}
@@ -16,6 +16,7 @@ use borrow.Author.Tests.{le-leb, le-ltb, lt-leb}
 use lib.ListN.{length}
 use mathlib.Core.Bool.{false}
 use mathlib.Core.Path.{_∙_, _≡_, refl}
+use native.Mathlib.Omega.{arith}
 
 -- Test 13 does not apply to limits within theirs.
 limit-inside : {most n : ℕ} → Within most n → outside? most n ≡ false
@@ -60,19 +61,41 @@ module _ (g : Given) where
         output = h .output;
         limits =
             record {
-              size = record { some = h .some-size; bounded = h .size };
-              rows = record { some = h .some-row; bounded = h .rows };
-              steps = record { some = h .some-step; bounded = h .steps };
+              size = record { some = h .some-size; bounded = omega (arith, h .size) };
+              rows = record { some = h .some-row; bounded = omega (arith, h .rows) };
+              steps = record { some = h .some-step; bounded = omega (arith, h .steps) };
             };
         room =
             record {
-              pairs = h .pairs;
-              look = h .look;
-              diagrams = h .diagrams;
-              stages = h .stages;
+              pairs = omega (arith, h .pairs);
+              look = omega (arith, h .look);
+              diagrams = omega (arith, h .diagrams);
+              stages = omega (arith, h .stages);
               diagram-rows = h .diagram-rows;
               marked = h .marks;
             };
+        setting = h .setting;
+      }
+
+  -- A call that is not refused is a good one.
+  pub compare-only : refusalOf g ≡ 0 → Good g
+  compare-only e =
+      let h = passed g e in
+      record {
+        table = passed-fits (g .table) (accepts (g .table) (h .table));
+        output = h .output;
+        some-size = h .limits .size .some;
+        size = omega (arith, h .limits .size .bounded);
+        some-row = h .limits .rows .some;
+        rows = omega (arith, h .limits .rows .bounded);
+        some-step = h .limits .steps .some;
+        steps = omega (arith, h .limits .steps .bounded);
+        pairs = omega (arith, h .room .pairs);
+        look = omega (arith, h .room .look);
+        diagrams = omega (arith, h .room .diagrams);
+        stages = omega (arith, h .room .stages);
+        diagram-rows = h .room .diagram-rows;
+        marks = h .room .marked;
         setting = h .setting;
       }
 

@@ -4,7 +4,7 @@ use Rattle.load_model.specs.Load.{LoadRoom, accepted, countsDiffer?, len
 use Rattle.load_model.specs.Loadable.{Enough, Loadable, Loads}
 use Rattle.load_model.specs.declared.Tally.{Tally}
 use Rattle.netlist.proofs.ReadLaws.{read-back, read-only}
-use Rattle.netlist.specs.Accepted.{countsIn}
+use Rattle.netlist.specs.code.Accepted.{countsIn}
 use Rattle.netlist.specs.Check.{Read, read, readNetlist, unread}
 use Rattle.netlist.specs.Limits.{maxBytes}
 use Rattle.netlist.specs.Meaning.{andCount}

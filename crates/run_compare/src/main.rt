@@ -73,10 +73,17 @@ fn run_case(case: &[u8]) {
         &mut marks,
         &mut setting,
     );
-    let is_kept = is_front(field(case, 1), &table)
-        && are_kept(&pairs, &look, &diagrams, &stages, &rows)
-        && are_bytes(&marks, MARK_BEFORE)
-        && are_bytes(&setting, SETTING_BEFORE);
+    let is_kept = are_kept(
+        case,
+        &table,
+        &pairs,
+        &look,
+        &diagrams,
+        &stages,
+        &rows,
+        &marks,
+        &setting,
+    );
     show(field(case, 0), reply, is_kept);
 }
 
@@ -163,13 +170,26 @@ fn is_front(front: &[u8], table: &[u32]) -> bool {
     is_same
 }
 
-// Whether the five working slices hold what they held.
-fn are_kept(pairs: &[u32], look: &[u32], diagrams: &[u32], stages: &[u32], rows: &[u32]) -> bool {
-    are_words(pairs)
+// Whether the slices hold what they held before the call.
+fn are_kept(
+    case: &[u8],
+    table: &[u32],
+    pairs: &[u32],
+    look: &[u32],
+    diagrams: &[u32],
+    stages: &[u32],
+    rows: &[u32],
+    marks: &[u8],
+    setting: &[u8],
+) -> bool {
+    is_front(field(case, 1), table)
+        && are_words(pairs)
         && are_words(look)
         && are_words(diagrams)
         && are_words(stages)
         && are_words(rows)
+        && are_bytes(marks, MARK_BEFORE)
+        && are_bytes(setting, SETTING_BEFORE)
 }
 
 // Whether all words of a working slice are as before.
