@@ -107,7 +107,7 @@ module _ (t : Task) (pairs : List ℕ) (h : Asked t pairs) where
     asked places-long diagrams-long stages-long rows-long marks-long =
         record {
           functions = functions;
-          has-functions = poses;
+          has-functions = has-functions;
           few = omega (arith, h .named .count);
           narrow = omega (arith, h .named .inputs);
           modest = omega (arith, h .limited .size .1);
@@ -122,4 +122,4 @@ module _ (t : Task) (pairs : List ℕ) (h : Asked t pairs) where
 
     -- What the words are where it has ended.
     pub closed : (after : Workspace) (r : Ended) → Sweeps t before after r → Closed t functions after (r .used) (r .steps) (r .end)
-    closed after r sweeps = sweeps functions poses .closed
+    closed after r sweeps = sweeps functions has-functions .closed
