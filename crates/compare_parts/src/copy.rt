@@ -45,9 +45,9 @@ pub fn copy_in(table: &[u32], pairs: &mut [u32])
     requires { ⌜ 2 * verticesOf (now table) ≤ length (now pairs) ⌝ }
     ensures { λ _. ⌜ now (pairs .exit) ≡ overFront (graphWords (now (table .entry))) (now (pairs .entry)) ⌝ }
 {
-    let first = 1 + table[0];
+    let first = 1 + table::inputs(table);
     own_front(pairs, first);
-    let made = table[1] as usize;
+    let made = table::made(table) as usize;
     let end = HEADER + 2 * made;
     let at = 2 * first as usize;
     copy_front(&table[HEADER..end], &mut pairs[at..]);
@@ -71,9 +71,9 @@ pub fn copy_out(table: &mut [u32], pairs: &[u32])
     requires { ⌜ length (now pairs) ≡ 2 * verticesOf (now table) ⌝ }
     ensures { λ _. ⌜ now (table .exit) ≡ tableLeft (now (table .entry)) (now (pairs .entry)) ⌝ }
 {
-    let made = table[1] as usize;
-    let outputs = table[2] as usize;
-    let first = 2 * (1 + table[0] as usize);
+    let made = table::made(&table[..]) as usize;
+    let outputs = table::outputs(&table[..]) as usize;
+    let first = 2 * (1 + table::inputs(&table[..]) as usize);
     let from = HEADER + 2 * made;
     let end = from + 2 * outputs;
     copy_front(&pairs[first..], &mut table[HEADER..]);

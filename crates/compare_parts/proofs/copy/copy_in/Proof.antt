@@ -5,8 +5,8 @@ use Rattle.compare_parts.proofs.copy.copy_in.Statement.{statement}
 use Rattle.compare_parts.proofs.copy.copy_in.Tie as tie
 use borrow.Author.Needs.{needs}
 
-shared-slice-read-first : tie.Need-shared-slice-read-first
-shared-slice-read-first c = search needs
+inputs-requires : tie.Need-inputs-requires
+inputs-requires c κs = search needs
 
 add-first : tie.Need-add-first
 add-first c = search needs
@@ -14,8 +14,8 @@ add-first c = search needs
 own-front-requires : tie.Need-own-front-requires
 own-front-requires c κs = search needs
 
-shared-slice-read-made : tie.Need-shared-slice-read-made
-shared-slice-read-made c = search needs
+made-requires : tie.Need-made-requires
+made-requires c κs = search needs
 
 cast-made : tie.Need-cast-made
 cast-made c = search needs
@@ -62,18 +62,22 @@ same-length c = search needs
 returns : tie.Need-returns
 returns c =
     let copy = c .before .before in
+    let made = copy .before .before .before .made in
     let own = copy .before .before .before .before .before .before in
+    let inputs = own .before .before .inputs in
     let start = own .before .before .before .before .before in
-    rows-copied (start .args .table .now) (start .args .pairs .now) (own .own-front .last .0) (copy .copy-front .last .1 .0) (own .own-front .ensures) (copy .copy-front .ensures)
+    rw (inputs .ensures)
+    (rows-copied (start .args .table .now) (start .args .pairs .now) (own .own-front .last .0) (copy .copy-front .last .1 .0) (rw (inputs .ensures) at (own .own-front .ensures))
+    (rw (inputs .ensures, made .ensures) at (copy .copy-front .ensures)))
 
 pub copy-in-spec : {M : Type 1} → statement M
 copy-in-spec =
     tie.close
     (tie.spec
-    shared-slice-read-first
+    inputs-requires
     add-first
     own-front-requires
-    shared-slice-read-made
+    made-requires
     cast-made
     mul-end
     add-end
