@@ -68,7 +68,7 @@ module _ (table : List ℕ) (output : ℕ) (limits : Limits) (accepted : Accepte
     asked =
         record {
           functions = functions;
-          has-functions = poses;
+          has-functions = has-functions;
           few = omega (arith, task .count, accepted .formed .inputs, accepted .formed .made);
           narrow = omega (arith, task .inputs, accepted .formed .inputs);
           modest = omega (arith, task .size, within .size .bounded);
@@ -90,7 +90,7 @@ module _ (table : List ℕ) (output : ℕ) (limits : Limits) (accepted : Accepte
 
       -- It is that of the end and of what the slices hold.
       answers : SweepAnswers t functions answer after e
-      answers = rw (task .problem, entry-words) at (sweeps functions poses)
+      answers = rw (task .problem, entry-words) at (sweeps functions has-functions)
 
       -- The rows that it leaves are the pairs,
       pairs-left : answer .left .rows ≡ after .pairs
