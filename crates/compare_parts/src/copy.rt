@@ -1,11 +1,9 @@
 // The table's rows copied to the working graph, and the graph's rows and the outputs back.
 use aig::literal::Literal;
 use sweep_graph::normalise::resolve;
-use sweep_graph::words::set_words;
 use table::HEADER;
-ghost use Prim.Native.Nat.{_*_, _+_, _<_, _^_, _≤_, ℕ};
+ghost use Prim.Native.Nat.{_*_, _+_, _<_, _≤_, ℕ};
 ghost use Rattle.aig.specs.Literal.{vertexOf};
-ghost use Rattle.aig.specs.Lookup.{ownWords};
 ghost use Rattle.compare_model.specs.Compare.{graphWords, overFront, tableLeft};
 ghost use Rattle.sweep_model.specs.Normalise.{resolve};
 ghost use Rattle.table.specs.Accepted.{Accepted, WellFormed};
@@ -14,43 +12,18 @@ ghost use lib.ListN.{getD, length};
 ghost use mathlib.Core.List.{map};
 ghost use mathlib.Core.Path.{_≡_};
 
-// The words of one slice to the front of another.
-fn copy_front(from: &[u32], to: &mut [u32])
-    requires { ⌜ length (now from) ≤ length (now to) ⌝ }
-    ensures { λ _. ⌜ now (to .exit) ≡ overFront (now (from .entry)) (now (to .entry)) ⌝ }
-{
-    let mut i = 0;
-    while i < from.len() {
-        to[i] = from[i];
-        i += 1;
-    }
-}
-
-// The first vertices stand for themselves.
-fn own_front(pairs: &mut [u32], first: u32)
-    requires { ⌜ 2 * first ≤ length (now pairs) ⌝ }
-    requires { ⌜ first < 2 ^ 31 ⌝ }
-    ensures { λ _. ⌜ now (pairs .exit) ≡ overFront (ownWords 0 first) (now (pairs .entry)) ⌝ }
-{
-    let mut v = 0;
-    while v < first {
-        set_words(pairs, v, 2 * v, 2 * v);
-        v += 1;
-    }
-}
-
 // The first vertices' own words, and the table's rows.
 pub fn copy_in(table: &[u32], pairs: &mut [u32])
     requires { ⌜ WellFormed (now table) ⌝ }
     requires { ⌜ 2 * verticesOf (now table) ≤ length (now pairs) ⌝ }
     ensures { λ _. ⌜ now (pairs .exit) ≡ overFront (graphWords (now (table .entry))) (now (pairs .entry)) ⌝ }
 {
-    let first = 1 + table[0];
-    own_front(pairs, first);
-    let made = table[1] as usize;
+    let first = 1 + table::inputs(table);
+    words::write_own(pairs, first);
+    let made = table::made(table) as usize;
     let end = HEADER + 2 * made;
     let at = 2 * first as usize;
-    copy_front(&table[HEADER..end], &mut pairs[at..]);
+    words::copy(&table[HEADER..end], pairs, at);
 }
 
 // Each word becomes what its vertex was merged into.
@@ -71,11 +44,11 @@ pub fn copy_out(table: &mut [u32], pairs: &[u32])
     requires { ⌜ length (now pairs) ≡ 2 * verticesOf (now table) ⌝ }
     ensures { λ _. ⌜ now (table .exit) ≡ tableLeft (now (table .entry)) (now (pairs .entry)) ⌝ }
 {
-    let made = table[1] as usize;
-    let outputs = table[2] as usize;
-    let first = 2 * (1 + table[0] as usize);
+    let made = table::made(&table[..]) as usize;
+    let outputs = table::outputs(&table[..]) as usize;
+    let first = 2 * (1 + table::inputs(&table[..]) as usize);
     let from = HEADER + 2 * made;
     let end = from + 2 * outputs;
-    copy_front(&pairs[first..], &mut table[HEADER..]);
+    words::copy(&pairs[first..], table, HEADER);
     resolve_all(&mut table[from..end], pairs);
 }

@@ -74,7 +74,7 @@ fn call_refusal(table: &[u32], output: u32, limits: Limits, lengths: Lengths) ->
     requires { ⌜ WellFormed (now table) ⌝ }
     ensures { λ r. ⌜ r ≡ firstRefusal 0 (callTests (now (table .entry)) output (limitsOf limits) (roomOf lengths) (lengths .marks) (lengths .setting)) ⌝ }
 {
-    if table[2] <= output {
+    if table::outputs(table) <= output {
         return 12;
     }
     if is_beyond(limits) {
@@ -83,7 +83,7 @@ fn call_refusal(table: &[u32], output: u32, limits: Limits, lengths: Lengths) ->
     if is_short(table::vertices(table), limits.rows, lengths) {
         return 14;
     }
-    if lengths.setting < table[0] as usize {
+    if lengths.setting < table::inputs(table) as usize {
         return 15;
     }
     0

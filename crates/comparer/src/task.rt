@@ -14,10 +14,11 @@ pub fn task_of(table: &[u32], output: u32, limits: Limits) -> Task
 {
     let left = table::output_literal(table, 1, output as usize).0;
     let right = table::output_literal(table, 2, output as usize).0;
+    let inputs = table::inputs(table);
     Task {
-        first: 1 + table[0],
-        count: 1 + table[0] + table[1],
-        inputs: table[0] as usize,
+        first: 1 + inputs,
+        count: 1 + inputs + table::made(table),
+        inputs: inputs as usize,
         left,
         right,
         size: limits.size as usize,

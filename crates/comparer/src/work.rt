@@ -68,7 +68,7 @@ pub fn finish(
     ensures { λ _. ⌜ now (setting .exit) ≡ settingLeft (verdictOf (now (rows .entry)) (inputsOf (now (table .entry))) (ended .end)) (now (setting .entry)) ⌝ }
     ensures { λ r. ⌜ saidOf r ≡ saidBy (verdictOf (now (rows .entry)) (inputsOf (now (table .entry))) (ended .end)) (ended .used) (ended .steps) ⌝ }
 {
-    let inputs = table[0] as usize;
+    let inputs = table::inputs(&table[..]) as usize;
     let words = 2 * table::vertices(&table[..]);
     copy_out(table, &pairs[..words]);
     let end = ended.end;

@@ -47,13 +47,13 @@ fn call_refusal(table: &[u32], side: u32, output: u32, setting: &[u8], room: usi
     requires { ⌜ WellFormed (now table) ⌝ }
     ensures { λ r. ⌜ r ≡ firstRefusal 0 (callTests (now (table .entry)) side output (now (setting .entry)) room) ⌝ }
 {
-    if is_unknown(side, output, table[2]) {
+    if is_unknown(side, output, table::outputs(table)) {
         return 12;
     }
     if room < table::vertices(table) {
         return 14;
     }
-    if setting.len() != table[0] as usize {
+    if setting.len() != table::inputs(table) as usize {
         return 16;
     }
     if !all_digits(setting) {

@@ -59,8 +59,8 @@ fn fill_rows(table: &[u32], values: &mut [u8])
     requires { ⌜ Bits (take (1 + inputsOf (now table)) (now values)) ⌝ }
     ensures { λ _. ⌜ take (verticesOf (now (table .entry))) (now (values .exit)) ≡ numberValues (take (1 + inputsOf (now (table .entry))) (now (values .entry))) (rowsOf (now (table .entry))) ⌝ }
 {
-    let made = table[1] as usize;
-    let mut vertex = 1 + table[0] as usize;
+    let made = table::made(table) as usize;
+    let mut vertex = 1 + table::inputs(table) as usize;
     let mut i = 0;
     while i < made {
         let value = row_value(table, HEADER + 2 * i, values, vertex);

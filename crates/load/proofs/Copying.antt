@@ -1,11 +1,10 @@
--- The literals of a file's first vertices, words copied, and the table, each written over a list.
+-- The literals of a file's first vertices and the table, each written over a list.
 use Prim.Native.Nat.{_*_, _+_, _-_, _<_, _≤_, ℕ}
 use Rattle.load_model.specs.Build.{literalsFrom}
-use Rattle.load_graph.proofs.Writing.{Writing, ahead-one, writing-begins, writing-ends, writing-turn}
 use Rattle.text.proofs.DecimalLaws.{stored-append}
 use Rattle.text.specs.Decimal.{Stored, written}
-use lib.ListN.{drop, drop-of-length-le, getD, length, length-append, length-set, set}
-use lib.Seq.{drop-cons}
+use Rattle.words.proofs.Writing.{Writing, ahead-one, writing-begins, writing-ends, writing-turn}
+use lib.ListN.{length, length-append, length-set, set}
 use mathlib.Core.List.{List, [], _++_, _∷_, append-assoc}
 use mathlib.Core.Path.{_∙_, _≡_, ap, refl, sym}
 use native.Mathlib.Numerals.{add-one}
@@ -27,19 +26,6 @@ module _ {old list : List ℕ} {n v : ℕ} (w : Writing old 0 (literalsFrom 0 n)
   pub literals-end : n ≤ v → list ≡ written old 0 (literalsFrom 0 n)
   unfolding literalsFrom
   literals-end h = let z : n - v ≡ 0 = omega arith in writing-ends (rw z at w)
-
--- Words copied.
-pub copy-begins : (old : List ℕ) (at : ℕ) (words : List ℕ) → Writing old at words old (at + 0) words
-copy-begins old at words = let z : at + 0 ≡ at = omega arith in rw z (writing-begins old at words)
-
-module _ {old words list : List ℕ} {at i : ℕ} (w : Writing old at words list (at + i) (drop i words)) where
-  pub copy-turn : i < length words → at + i < length list → Writing old at words (set list (at + i) (getD words i 0)) (at + (i + 1)) (drop (i + 1) words)
-  copy-turn h l =
-      let m : at + (i + 1) ≡ at + i + 1 = omega arith in
-      rw (m, add-one i) (writing-turn (rw (drop-cons words i 0 h) at w) l)
-
-  pub copy-ends : length words ≤ i → list ≡ written old at words
-  copy-ends h = writing-ends (rw (drop-of-length-le words h) at w)
 
 -- Three words at the front.
 pub header-written : (old : List ℕ) (a b c : ℕ) → 3 ≤ length old → set (set (set old 0 a) 1 b) 2 c ≡ written old 0 (a ∷ b ∷ c ∷ [])

@@ -4,7 +4,6 @@ use Rattle.aig.specs.Literal.{lit, vertexOf}
 use Rattle.aig.specs.declared.literal.Literal.{Literal}
 use Rattle.load_model.specs.Build.{Build, Built, Traced, askGate, askGates, literalFor, withGate}
 use Rattle.load_graph.proofs.Asking.{gate-asked}
-use Rattle.load_graph.proofs.Writing.{Writing, writing-begins, writing-ends, writing-turn}
 use Rattle.load_graph.specs.code.Slices.{tracedOf}
 use Rattle.load_graph.specs.declared.Counts.{Counts}
 use Rattle.load.specs.code.File.{GateLine, GatesAhead, GatesPassed, OutputLine, OutputsAhead}
@@ -20,6 +19,7 @@ use Rattle.netlist.specs.declared.records.Record.{Record}
 use Rattle.table.specs.Limits.{maxAnds}
 use Rattle.text.specs.Decimal.{written}
 use Rattle.text.specs.Split.{upTo}
+use Rattle.words.proofs.Writing.{Writing, writing-begins, writing-ends, writing-turn}
 use lib.ListN.{drop, length, set, take}
 use lib.Seq.{getD-take, take-suc-set}
 use mathlib.Core.List.{List, [], _++_, _∷_, map}

@@ -6,13 +6,12 @@ use aig::lookup;
 use aig::lookup::Found;
 use netlist::records::Operation;
 ghost use Prim.Native.Nat.{_*_, _+_, _<_, _≤_};
-ghost use Rattle.aig.specs.Lookup.{entered, ownWords, withRow};
+ghost use Rattle.aig.specs.Lookup.{entered, withRow};
 ghost use Rattle.load_model.specs.Build.{askAnd, askGate, askXor, emptyBuild};
 ghost use Rattle.load_model.specs.Load.{maxVertices};
 ghost use Rattle.load_graph.specs.code.Slices.{Graph, Roomy, buildOf, builtOf, countsAfter};
 ghost use Rattle.netlist.specs.Check.{andsOf};
 ghost use Rattle.table.specs.Limits.{maxAnds, maxInputs};
-ghost use Rattle.text.specs.Decimal.{written};
 ghost use lib.ListN.{length};
 ghost use mathlib.Core.Path.{_≡_};
 
@@ -76,27 +75,13 @@ pub fn start(pairs: &mut [u32], look: &mut [u32], inputs: u32) -> Counts
     ensures result { λ r. ⌜ buildOf (now (pairs .exit)) r ≡ emptyBuild inputs ⌝ }
     ensures graph { λ r. ⌜ Graph (now (pairs .exit)) (now (look .exit)) r ⌝ }
 {
-    write_own_words(pairs, 1 + inputs);
+    words::write_own(pairs, 1 + inputs);
     lookup::clear(look, MAX_VERTICES);
     Counts {
         vertices: 1 + inputs,
         asked: 0,
         folded: 0,
         found: 0,
-    }
-}
-
-// The words of the first vertices: each holds its own literal twice.
-fn write_own_words(pairs: &mut [u32], count: u32)
-    requires { ⌜ (count ≤ 1 + maxInputs) × (2 * count ≤ length (now pairs)) ⌝ }
-    ensures { λ _. ⌜ now (pairs .exit) ≡ written (now (pairs .entry)) 0 (ownWords 0 count) ⌝ }
-{
-    let mut v: u32 = 0;
-    while v < count {
-        let at = 2 * v as usize;
-        pairs[at] = 2 * v;
-        pairs[at + 1] = 2 * v;
-        v += 1;
     }
 }
 

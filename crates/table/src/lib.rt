@@ -5,7 +5,7 @@ ghost use Rattle.aig.specs.Literal.{lit};
 ghost use Rattle.table.specs.Accepted.{WellFormed};
 ghost use Rattle.table.specs.Limits.{maxAnds, maxInputs};
 ghost use Rattle.table.specs.Refusals.{firstRefusal};
-ghost use Rattle.table.specs.Table.{allBelow?, beyondLimits?, downward?, malformed?, outOfOrder?, outputsOf, pairs, rowAt, rowBelow?, sideOutputs, tableTests, verticesOf};
+ghost use Rattle.table.specs.Table.{allBelow?, beyondLimits?, downward?, inputsOf, madeOf, malformed?, outOfOrder?, outputsOf, pairs, rowAt, rowBelow?, sideOutputs, tableTests, verticesOf};
 ghost use lib.ListN.{drop, getD, length};
 ghost use mathlib.Core.Path.{_≡_};
 
@@ -110,6 +110,28 @@ pub fn refusal(words: &[u32]) -> u32
         return 11;
     }
     0
+}
+
+// The words of the header.
+pub fn inputs(words: &[u32]) -> u32
+    requires { ⌜ WellFormed (now words) ⌝ }
+    ensures { λ r. ⌜ r ≡ inputsOf (now (words .entry)) ⌝ }
+{
+    words[0]
+}
+
+pub fn made(words: &[u32]) -> u32
+    requires { ⌜ WellFormed (now words) ⌝ }
+    ensures { λ r. ⌜ r ≡ madeOf (now (words .entry)) ⌝ }
+{
+    words[1]
+}
+
+pub fn outputs(words: &[u32]) -> u32
+    requires { ⌜ WellFormed (now words) ⌝ }
+    ensures { λ r. ⌜ r ≡ outputsOf (now (words .entry)) ⌝ }
+{
+    words[2]
 }
 
 // The number of vertices: the constant, the inputs, and the made ones.

@@ -5,11 +5,11 @@ use Rattle.load_graph.proofs.start.Statement.{statement}
 use Rattle.load_graph.proofs.start.Tie as tie
 use borrow.Author.Needs.{needs}
 
-add-write-own-words : tie.Need-add-write-own-words
-add-write-own-words c = search needs
+add-write-own : tie.Need-add-write-own
+add-write-own c = search needs
 
-write-own-words-requires : tie.Need-write-own-words-requires
-write-own-words-requires c κs = search needs
+write-own-requires : tie.Need-write-own-requires
+write-own-requires c κs = search needs
 
 clear-requires : tie.Need-clear-requires
 clear-requires c κs = search needs
@@ -26,7 +26,7 @@ same-length-2 c = search needs
 returns : tie.Need-returns
 returns c =
     let s = c .before .before .before .before .before .before .before .before .before .before in
-    rw (c .before .before .before .before .before .before .write-own-words .ensures, c .before .before .clear .ensures) (
+    rw (c .before .before .before .before .before .before .write-own .ensures, c .before .before .clear .ensures) (
       start-built (s .args .pairs .now) (s .args .look .now) (s .args .inputs) (s .pre .0) (s .pre .1) (s .pre .2),
       start-graph (s .args .pairs .now) (s .args .look .now) (s .args .inputs) (s .pre .0) (s .pre .1) (s .pre .2),
     )
@@ -35,8 +35,8 @@ pub start-spec : {M : Type 1} → statement M
 start-spec =
     tie.close
     (tie.spec
-    add-write-own-words
-    write-own-words-requires
+    add-write-own
+    write-own-requires
     clear-requires
     add-t7
     same-length

@@ -5,20 +5,20 @@ use Rattle.compare_parts.proofs.copy.copy_out.Statement.{statement}
 use Rattle.compare_parts.proofs.copy.copy_out.Tie as tie
 use borrow.Author.Needs.{needs}
 
-slice-read-made : tie.Need-slice-read-made
-slice-read-made c = search needs
+made-requires : tie.Need-made-requires
+made-requires c κs = search needs
 
 cast-made : tie.Need-cast-made
 cast-made c = search needs
 
-slice-read-outputs : tie.Need-slice-read-outputs
-slice-read-outputs c = search needs
+outputs-requires : tie.Need-outputs-requires
+outputs-requires c κs = search needs
 
 cast-outputs : tie.Need-cast-outputs
 cast-outputs c = search needs
 
-slice-read-first : tie.Need-slice-read-first
-slice-read-first c = search needs
+inputs-requires : tie.Need-inputs-requires
+inputs-requires c κs = search needs
 
 cast-first : tie.Need-cast-first
 cast-first c = search needs
@@ -41,29 +41,20 @@ mul-end c = search needs
 add-end : tie.Need-add-end
 add-end c = search needs
 
-mul-copy-front : tie.Need-mul-copy-front
-mul-copy-front c = search needs
+mul-copy : tie.Need-mul-copy
+mul-copy c = search needs
 
-sub-copy-front : tie.Need-sub-copy-front
-sub-copy-front c = search needs
+sub-copy : tie.Need-sub-copy
+sub-copy c = search needs
 
-part-copy-front-start : tie.Need-part-copy-front-start
-part-copy-front-start c = search needs
+part-copy-start : tie.Need-part-copy-start
+part-copy-start c = search needs
 
-part-copy-front-end : tie.Need-part-copy-front-end
-part-copy-front-end c = search needs
+part-copy-end : tie.Need-part-copy-end
+part-copy-end c = search needs
 
-sub-copy-front-2 : tie.Need-sub-copy-front-2
-sub-copy-front-2 c = search needs
-
-part-copy-front-start-2 : tie.Need-part-copy-front-start-2
-part-copy-front-start-2 c = search needs
-
-part-copy-front-end-2 : tie.Need-part-copy-front-end-2
-part-copy-front-end-2 c = search needs
-
-copy-front-requires : tie.Need-copy-front-requires
-copy-front-requires c κs = search needs
+copy-requires : tie.Need-copy-requires
+copy-requires c κs = search needs
 
 mul-resolve-all : tie.Need-mul-resolve-all
 mul-resolve-all c = search needs
@@ -80,9 +71,13 @@ part-resolve-all-end c = search needs
 resolve-all-requires : tie.Need-resolve-all-requires
 resolve-all-requires c κs =
     let copy = c .before .before .before in
-    let start = copy .before .before .before .before .before .before .before .before in
-    outputs-within (start .args .table .now) (start .args .pairs .now) (copy .copy-front .last .1 .0) (start .pre .0 .formed .whole) (start .pre .1)
-    (copy .copy-front .ensures) (start .pre .0 .references)
+    let inputs = copy .before .before .before in
+    let outputs = inputs .before .before in
+    let made = outputs .before .before in
+    let start = made .before .before .before .before in
+    rw (made .made .ensures, outputs .outputs .ensures)
+    (outputs-within (start .args .table .now) (start .args .pairs .now) (copy .copy .last .1 .0) (start .pre .0 .formed .whole) (start .pre .1)
+    (rw (inputs .inputs .ensures) at (copy .copy .ensures .list)) (start .pre .0 .references))
 
 same-length : tie.Need-same-length
 same-length c = search needs
@@ -91,19 +86,24 @@ returns : tie.Need-returns
 returns c =
     let words = c .before .before in
     let copy = words .before .before .before .before in
-    let start = copy .before .before .before .before .before .before .before .before in
-    outputs-resolved (start .args .table .now) (start .args .pairs .now) (copy .copy-front .last .1 .0) (start .pre .0 .formed .whole) (start .pre .1)
-    (copy .copy-front .ensures) (words .resolve-all .last .0) (words .resolve-all .ensures)
+    let inputs = copy .before .before .before in
+    let outputs = inputs .before .before in
+    let made = outputs .before .before in
+    let start = made .before .before .before .before in
+    rw (made .made .ensures, outputs .outputs .ensures)
+    (outputs-resolved (start .args .table .now) (start .args .pairs .now) (copy .copy .last .1 .0) (start .pre .0 .formed .whole) (start .pre .1)
+    (rw (inputs .inputs .ensures) at (copy .copy .ensures .list)) (words .resolve-all .last .0)
+    (rw (made .made .ensures, outputs .outputs .ensures) at (words .resolve-all .ensures)))
 
 pub copy-out-spec : {M : Type 1} → statement M
 copy-out-spec =
     tie.close
     (tie.spec
-    slice-read-made
+    made-requires
     cast-made
-    slice-read-outputs
+    outputs-requires
     cast-outputs
-    slice-read-first
+    inputs-requires
     cast-first
     add-first
     mul-first
@@ -111,14 +111,11 @@ copy-out-spec =
     add-from
     mul-end
     add-end
-    mul-copy-front
-    sub-copy-front
-    part-copy-front-start
-    part-copy-front-end
-    sub-copy-front-2
-    part-copy-front-start-2
-    part-copy-front-end-2
-    copy-front-requires
+    mul-copy
+    sub-copy
+    part-copy-start
+    part-copy-end
+    copy-requires
     mul-resolve-all
     sub-resolve-all
     part-resolve-all-start

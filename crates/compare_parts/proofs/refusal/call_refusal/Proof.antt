@@ -7,19 +7,21 @@ use borrow.Author.Needs.{needs}
 use borrow.Author.Tests.{le-leb, le-ltb, lt-leb, lt-ltb}
 use mathlib.Core.Path.{_∙_, refl, sym}
 
-shared-slice-read-if1 : tie.Need-shared-slice-read-if1
-shared-slice-read-if1 c = search needs
+outputs-requires : tie.Need-outputs-requires
+outputs-requires c κs = search needs
 
 returns : tie.Need-returns
 unfolding firstRefusal
-returns c = rw (le-leb _ _ (c .if1 .taken)) refl
+returns c = rw (le-leb _ _ (rw (c .before .outputs .ensures) at (c .if1 .taken))) refl
 
 is-beyond-requires : tie.Need-is-beyond-requires
 is-beyond-requires c κs = search needs
 
 returns-2 : tie.Need-returns-2
 unfolding firstRefusal
-returns-2 c = rw (lt-leb _ _ (c .before .before .if1 .left), sym (c .before .is-beyond .ensures) ∙ c .if2 .taken) refl
+returns-2 c =
+    let output = c .before .before in
+    rw (lt-leb _ _ (rw (output .before .outputs .ensures) at (output .if1 .left)), sym (c .before .is-beyond .ensures) ∙ c .if2 .taken) refl
 
 vertices-requires : tie.Need-vertices-requires
 vertices-requires c κs = search needs
@@ -32,11 +34,11 @@ unfolding firstRefusal
 returns-3 c =
     let limits = c .before .before .before in
     let output = limits .before .before in
-    rw (lt-leb _ _ (output .if1 .left), sym (limits .before .is-beyond .ensures) ∙ limits .if2 .left)
+    rw (lt-leb _ _ (rw (output .before .outputs .ensures) at (output .if1 .left)), sym (limits .before .is-beyond .ensures) ∙ limits .if2 .left)
     (rw (← c .before .before .vertices .ensures, sym (c .before .is-short .ensures) ∙ c .if3 .taken) refl)
 
-shared-slice-read-if4 : tie.Need-shared-slice-read-if4
-shared-slice-read-if4 c = search needs
+inputs-requires : tie.Need-inputs-requires
+inputs-requires c κs = search needs
 
 cast-if4 : tie.Need-cast-if4
 cast-if4 c = search needs
@@ -47,8 +49,8 @@ returns-4 c =
     let room = c .before .before .before in
     let limits = room .before .before .before in
     let output = limits .before .before in
-    rw (lt-leb _ _ (output .if1 .left), sym (limits .before .is-beyond .ensures) ∙ limits .if2 .left)
-    (rw (← room .before .before .vertices .ensures, sym (room .before .is-short .ensures) ∙ room .if3 .left) (rw (lt-ltb _ _ (c .if4 .taken)) refl))
+    rw (lt-leb _ _ (rw (output .before .outputs .ensures) at (output .if1 .left)), sym (limits .before .is-beyond .ensures) ∙ limits .if2 .left)
+    (rw (← room .before .before .vertices .ensures, sym (room .before .is-short .ensures) ∙ room .if3 .left) (rw (lt-ltb _ _ (rw (c .before .before .inputs .ensures) at (c .if4 .taken))) refl))
 
 returns-5 : tie.Need-returns-5
 unfolding firstRefusal
@@ -56,21 +58,21 @@ returns-5 c =
     let room = c .before .before .before in
     let limits = room .before .before .before in
     let output = limits .before .before in
-    rw (lt-leb _ _ (output .if1 .left), sym (limits .before .is-beyond .ensures) ∙ limits .if2 .left)
-    (rw (← room .before .before .vertices .ensures, sym (room .before .is-short .ensures) ∙ room .if3 .left) (rw (le-ltb _ _ (c .if4 .left)) refl))
+    rw (lt-leb _ _ (rw (output .before .outputs .ensures) at (output .if1 .left)), sym (limits .before .is-beyond .ensures) ∙ limits .if2 .left)
+    (rw (← room .before .before .vertices .ensures, sym (room .before .is-short .ensures) ∙ room .if3 .left) (rw (le-ltb _ _ (rw (c .before .before .inputs .ensures) at (c .if4 .left))) refl))
 
 pub call-refusal-spec : {M : Type 1} → statement M
 call-refusal-spec =
     tie.close
     (tie.spec
-    shared-slice-read-if1
+    outputs-requires
     returns
     is-beyond-requires
     returns-2
     vertices-requires
     is-short-requires
     returns-3
-    shared-slice-read-if4
+    inputs-requires
     cast-if4
     returns-4
     returns-5)

@@ -6,15 +6,15 @@ use borrow.Author.Needs.{needs}
 use borrow.Author.Tests.{eq-eqb, le-ltb, lt-ltb, ne-eqb}
 use mathlib.Core.Path.{_∙_, refl, sym}
 
-shared-slice-read-is-unknown : tie.Need-shared-slice-read-is-unknown
-shared-slice-read-is-unknown c = search needs
+outputs-requires : tie.Need-outputs-requires
+outputs-requires c κs = search needs
 
 is-unknown-requires : tie.Need-is-unknown-requires
 is-unknown-requires c κs = search needs
 
 returns : tie.Need-returns
 unfolding firstRefusal
-returns c = rw (sym (c .before .is-unknown .ensures) ∙ c .if1 .taken) refl
+returns c = rw (sym (rw (c .before .before .outputs .ensures) at (c .before .is-unknown .ensures)) ∙ c .if1 .taken) refl
 
 vertices-requires : tie.Need-vertices-requires
 vertices-requires c κs = search needs
@@ -23,10 +23,11 @@ returns-2 : tie.Need-returns-2
 unfolding firstRefusal
 returns-2 c =
     let side = c .before .before in
-    rw (sym (side .before .is-unknown .ensures) ∙ side .if1 .left, lt-ltb _ _ (rw (c .before .vertices .ensures) at (c .if2 .taken))) refl
+    let known = sym (rw (side .before .before .outputs .ensures) at (side .before .is-unknown .ensures)) ∙ side .if1 .left in
+    rw (known, lt-ltb _ _ (rw (c .before .vertices .ensures) at (c .if2 .taken))) refl
 
-shared-slice-read-if3 : tie.Need-shared-slice-read-if3
-shared-slice-read-if3 c = search needs
+inputs-requires : tie.Need-inputs-requires
+inputs-requires c κs = search needs
 
 cast-if3 : tie.Need-cast-if3
 cast-if3 c = search needs
@@ -36,9 +37,9 @@ unfolding firstRefusal
 returns-3 c =
     let room = c .before .before in
     let side = room .before .before in
-    let known = sym (side .before .is-unknown .ensures) ∙ side .if1 .left in
+    let known = sym (rw (side .before .before .outputs .ensures) at (side .before .is-unknown .ensures)) ∙ side .if1 .left in
     let enough = le-ltb _ _ (rw (room .before .vertices .ensures) at (room .if2 .left)) in
-    rw (known, enough, ne-eqb _ _ (c .if3 .taken)) refl
+    rw (known, enough, ne-eqb _ _ (rw (c .before .inputs .ensures) at (c .if3 .taken))) refl
 
 all-digits-requires : tie.Need-all-digits-requires
 all-digits-requires c κs = search needs
@@ -49,9 +50,9 @@ returns-4 c =
     let size = c .before .before in
     let room = size .before .before in
     let side = room .before .before in
-    let known = sym (side .before .is-unknown .ensures) ∙ side .if1 .left in
+    let known = sym (rw (side .before .before .outputs .ensures) at (side .before .is-unknown .ensures)) ∙ side .if1 .left in
     let enough = le-ltb _ _ (rw (room .before .vertices .ensures) at (room .if2 .left)) in
-    rw (known, enough, eq-eqb _ _ (size .if3 .left)) (rw (← c .before .all-digits .ensures, c .if4 .taken) refl)
+    rw (known, enough, eq-eqb _ _ (size .if3 .left ∙ size .before .inputs .ensures)) (rw (← c .before .all-digits .ensures, c .if4 .taken) refl)
 
 returns-5 : tie.Need-returns-5
 unfolding firstRefusal
@@ -59,20 +60,20 @@ returns-5 c =
     let size = c .before .before in
     let room = size .before .before in
     let side = room .before .before in
-    let known = sym (side .before .is-unknown .ensures) ∙ side .if1 .left in
+    let known = sym (rw (side .before .before .outputs .ensures) at (side .before .is-unknown .ensures)) ∙ side .if1 .left in
     let enough = le-ltb _ _ (rw (room .before .vertices .ensures) at (room .if2 .left)) in
-    rw (known, enough, eq-eqb _ _ (size .if3 .left)) (rw (← c .before .all-digits .ensures, c .if4 .left) refl)
+    rw (known, enough, eq-eqb _ _ (size .if3 .left ∙ size .before .inputs .ensures)) (rw (← c .before .all-digits .ensures, c .if4 .left) refl)
 
 pub call-refusal-spec : {M : Type 1} → statement M
 call-refusal-spec =
     tie.close
     (tie.spec
-    shared-slice-read-is-unknown
+    outputs-requires
     is-unknown-requires
     returns
     vertices-requires
     returns-2
-    shared-slice-read-if3
+    inputs-requires
     cast-if3
     returns-3
     all-digits-requires

@@ -21,14 +21,14 @@ Inv-loop table values₀ made vertex₀ i₀ values vertex i =
 abbrev μ-loop : tie.MeasureT-loop
 μ-loop table values₀ made vertex₀ i₀ values vertex i = made - i
 
-shared-slice-read-made : tie.Need-shared-slice-read-made Inv-loop μ-loop
-shared-slice-read-made c = search needs
+made-requires : tie.Need-made-requires Inv-loop μ-loop
+made-requires c κs = search needs
 
 cast-made : tie.Need-cast-made Inv-loop μ-loop
 cast-made c = search needs
 
-shared-slice-read-vertex : tie.Need-shared-slice-read-vertex Inv-loop μ-loop
-shared-slice-read-vertex c = search needs
+inputs-requires : tie.Need-inputs-requires Inv-loop μ-loop
+inputs-requires c κs = search needs
 
 cast-vertex : tie.Need-cast-vertex Inv-loop μ-loop
 cast-vertex c = search needs
@@ -38,7 +38,7 @@ add-vertex c = search needs
 
 loop-holds : tie.Need-loop-holds Inv-loop μ-loop
 unfolding rowsOf
-loop-holds c = (search needs, search needs, refl, simp sub-zero)
+loop-holds c = (search needs, search needs, refl, rw (c .before .made .ensures, c .inputs .ensures) (simp sub-zero))
 
 mul-row-value : tie.Need-mul-row-value Inv-loop μ-loop
 mul-row-value c = search needs
@@ -50,7 +50,7 @@ row-value-requires : tie.Need-row-value-requires Inv-loop μ-loop
 row-value-requires c κs =
     let inv = c .before .before .loop .inv in
     let start = c .before .before .before .before .before .before .before in
-    let below = row-words-below (start .pre .0) _ (c .before .loop-test .taken) in
+    let below = row-words-below (start .pre .0) _ (rw (c .before .before .before .before .made .ensures) at (c .before .loop-test .taken)) in
     (search needs, (search needs, (rw (inv .1) below, bits-ahead _ _ _ _ (inv .3) (start .pre .1 .1))))
 
 slice-write-values : tie.Need-slice-write-values Inv-loop μ-loop
@@ -88,9 +88,9 @@ fill-rows-spec =
     (tie.spec
     Inv-loop
     μ-loop
-    shared-slice-read-made
+    made-requires
     cast-made
-    shared-slice-read-vertex
+    inputs-requires
     cast-vertex
     add-vertex
     loop-holds

@@ -2,10 +2,10 @@
 -- The measure is what is left of the vertices.
 use Prim.Native.Nat.{_-_, _≤_}
 use Rattle.load_model.specs.Build.{literalsFrom}
-use Rattle.load_graph.proofs.Writing.{Writing}
 use Rattle.load.proofs.Copying.{literals-begin, literals-end, literals-turn}
 use Rattle.load.proofs.file.write_first_literals.Statement.{statement}
 use Rattle.load.proofs.file.write_first_literals.Tie as tie
+use Rattle.words.proofs.Writing.{Writing}
 use borrow.Author.Needs.{needs}
 use native.Mathlib.Omega.{arith}
 

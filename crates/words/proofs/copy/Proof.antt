@@ -1,10 +1,9 @@
 -- Invariant: the words before i are written, and the others are ahead.
 -- The measure is what is left of the words.
 use Prim.Native.Nat.{_+_, _-_, _≤_}
-use Rattle.load_graph.proofs.Writing.{Writing}
-use Rattle.load.proofs.Copying.{copy-begins, copy-ends, copy-turn}
-use Rattle.load.proofs.layout.copy.Statement.{statement}
-use Rattle.load.proofs.layout.copy.Tie as tie
+use Rattle.words.proofs.Writing.{Writing, copy-begins, copy-ends, copy-turn}
+use Rattle.words.proofs.copy.Statement.{statement}
+use Rattle.words.proofs.copy.Tie as tie
 use borrow.Author.Needs.{needs}
 use lib.ListN.{drop, length}
 use mathlib.Core.Path.{refl}

@@ -2,9 +2,9 @@
 -- The measure is what is left of the vertices.
 use Prim.Native.Nat.{_*_, _-_, _≤_}
 use Rattle.aig.specs.Lookup.{ownWords}
-use Rattle.load_graph.proofs.Writing.{Writing, own-begins, own-ends, own-turn}
-use Rattle.load_graph.proofs.write_own_words.Statement.{statement}
-use Rattle.load_graph.proofs.write_own_words.Tie as tie
+use Rattle.words.proofs.Writing.{Writing, own-begins, own-ends, own-turn}
+use Rattle.words.proofs.write_own.Statement.{statement}
+use Rattle.words.proofs.write_own.Tie as tie
 use borrow.Author.Needs.{needs}
 use lib.ListN.{length-set}
 use native.Mathlib.Omega.{arith}
@@ -60,8 +60,8 @@ same-length c = c .before .loop .inv .1 .same
 returns : tie.Need-returns Inv-loop μ-loop
 returns c = own-ends (c .before .loop .inv .1) (c .loop-test .left)
 
-pub write-own-words-spec : {M : Type 1} → statement M
-write-own-words-spec =
+pub write-own-spec : {M : Type 1} → statement M
+write-own-spec =
     tie.close
     (tie.spec
     Inv-loop

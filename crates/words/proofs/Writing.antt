@@ -3,7 +3,8 @@ use Prim.Native.Nat.{_*_, _+_, _-_, _<_, _≤_, suc, ℕ}
 use Rattle.aig.specs.Lookup.{ownWords}
 use Rattle.text.proofs.DecimalLaws.{written-append, written-one}
 use Rattle.text.specs.Decimal.{written}
-use lib.ListN.{length, length-set, set, take-append-drop}
+use lib.ListN.{drop, drop-of-length-le, getD, length, length-set, set, take-append-drop}
+use lib.Seq.{drop-cons}
 use mathlib.Core.List.{List, [], _∷_}
 use mathlib.Core.Path.{_∙_, _≡_, ap, refl, sym}
 use native.Mathlib.Numerals.{add-one}
@@ -56,3 +57,16 @@ module _ {old list : List ℕ} {n v : ℕ} (w : Writing old 0 (ownWords 0 n) lis
   pub own-ends : n ≤ v → list ≡ written old 0 (ownWords 0 n)
   unfolding ownWords
   own-ends h = let z : n - v ≡ 0 = omega arith in writing-ends (rw z at w)
+
+-- Words copied.
+pub copy-begins : (old : List ℕ) (at : ℕ) (words : List ℕ) → Writing old at words old (at + 0) words
+copy-begins old at words = let z : at + 0 ≡ at = omega arith in rw z (writing-begins old at words)
+
+module _ {old words list : List ℕ} {at i : ℕ} (w : Writing old at words list (at + i) (drop i words)) where
+  pub copy-turn : i < length words → at + i < length list → Writing old at words (set list (at + i) (getD words i 0)) (at + (i + 1)) (drop (i + 1) words)
+  copy-turn h l =
+      let m : at + (i + 1) ≡ at + i + 1 = omega arith in
+      rw (m, add-one i) (writing-turn (rw (drop-cons words i 0 h) at w) l)
+
+  pub copy-ends : length words ≤ i → list ≡ written old at words
+  copy-ends h = writing-ends (rw (drop-of-length-le words h) at w)
