@@ -130,7 +130,3 @@ pair-operands p q e = subst (Answer p q) e (answers p q) .1
 -- A pair that is left keeps the operands' bound.
 pub pair-below : (p q n : ℕ) {x y : Literal} → foldOf p q ≡ Pair x y → p < n → q < n → (x .0 < n) × (y .0 < n)
 pair-below p q n e hp hq = pair-each (λ (r : ℕ). r < n) (pair-operands p q e) hp hq
-
--- Every row is its own fold: a pair that is left folds to itself.
-pub pair-again : (p q : ℕ) {x y : Literal} → foldOf p q ≡ Pair x y → foldOf (x .0) (y .0) ≡ Pair x y
-pair-again p q {x} {y} e = fold-ordered (x .0) (y .0) (pair-unfolded p q e)

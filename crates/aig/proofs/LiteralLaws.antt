@@ -2,7 +2,7 @@
 use Prim.Native.Nat.{_%_, _*_, _+_, _<_, ℕ}
 use Rattle.aig.specs.Literal.{inverted?, literalOf, negate, onto, vertexOf}
 use borrow.Author.Tests.{eq-eqb, eqb-false, eqb-true, ne-eqb}
-use mathlib.Core.Bool.{Bool, cond, false, not, true}
+use mathlib.Core.Bool.{Bool, false, not, true}
 use mathlib.Core.Path.{_≡_, refl}
 use native.Mathlib.Omega.{arith}
 
@@ -13,10 +13,6 @@ negate-negate r = omega arith
 -- Two literals are inverse to each other or not at all.
 pub negate-swap : (p q : ℕ) → negate p ≡ q → negate q ≡ p
 negate-swap p q e = omega arith
-
--- No literal is its own inversion.
-pub negate-other : (r : ℕ) → negate r ≡ r → ⊥
-negate-other r = omega arith
 
 -- A literal and its inversion name one vertex.
 pub vertex-negate : (r : ℕ) → vertexOf (negate r) ≡ vertexOf r
@@ -53,18 +49,7 @@ pub inverted-literal : (v : ℕ) (b : Bool) → inverted? (literalOf v b) ≡ b
 inverted-literal v true = eq-eqb ((2 * v + 1) % 2) 1 (omega arith)
 inverted-literal v false = ne-eqb ((2 * v + 0) % 2) 1 (omega arith)
 
--- A literal is that of its vertex and its inversion.
-pub literal-parts : (r : ℕ) → literalOf (vertexOf r) (inverted? r) ≡ r
-literal-parts r = go (inverted? r) refl
-  where
-    go : (b : Bool) → inverted? r ≡ b → 2 * vertexOf r + cond b 1 0 ≡ r
-    go true e = let h : r % 2 ≡ 1 = eqb-true (r % 2) 1 e in omega arith
-    go false e = let h : (r % 2 ≡ 1 → ⊥) = eqb-false (r % 2) 1 e in omega arith
-
--- A literal inverted where another is: its vertex, whether it is inverted, and its bound.
-pub vertex-onto : (x r : ℕ) → vertexOf (onto x r) ≡ vertexOf x
-vertex-onto x r = omega arith
-
+-- A literal inverted where another is: itself or its inversion, and its bound.
 pub onto-even : (x r : ℕ) → r % 2 ≡ 0 → onto x r ≡ x
 onto-even x r h = omega arith
 

@@ -9,9 +9,9 @@ use Rattle.aig.specs.declared.fold.Folded.the-variants.{Pair, To}
 use Rattle.aig.specs.declared.fold.Folded.{Folded}
 use Rattle.aig.specs.declared.literal.Literal.{Literal}
 use borrow.Author.Tests.{eqb-false, eqb-true}
-use lib.ListN.{List·getD-append, List·getD-eq-default, getD, length}
+use lib.ListN.{List·getD-eq-default, getD, length}
 use mathlib.Core.Bool.{Bool, _&&_, cond, false, not, true}
-use mathlib.Core.List.{List, _++_}
+use mathlib.Core.List.{List}
 use mathlib.Core.Path.{_∙_, _≡_, ap, refl, subst, sym}
 use native.Mathlib.Decide.{decLt}
 use native.Mathlib.Omega.{arith}
@@ -46,10 +46,6 @@ all-good Good falsum base vs each v =
     ]
 
 module _ {A : Type 0} (invert : A → A) (both : A → A → A) (falsum : A) where
-  -- Vertices after a literal's own do not change its value.
-  pub value-append : (vs ws : List A) (r : ℕ) → vertexOf r < length vs → literalValue invert both falsum (vs ++ ws) r ≡ literalValue invert both falsum vs r
-  value-append vs ws r h = rw (List·getD-append vs ws falsum (vertexOf r) h)
-
   -- The value of a vertex's literal.
   pub value-literal : (vs : List A) (v : ℕ) (b : Bool) → literalValue invert both falsum vs (literalOf v b) ≡ cond b (invert (getD vs v falsum)) (getD vs v falsum)
   value-literal vs v b = rw (vertex-literal v b, inverted-literal v b)

@@ -1,10 +1,10 @@
 -- The unique table: the walk along a chain, a row added, rows given back, and that the rows determine their chains.
 use Prim.Native.Nat.{_*_, _+_, _-_, _/_, _<_, _≤_, suc, zero, ℕ}
-use Rattle.bdd.proofs.RowsLaws.{child-sees, head-sees, high-packed, length-put, level-packed, level-sees, low-packed, mark-constant, mark-packed, mark-sees, next-sees, owner-packed, owner-sees, put-row, put-same, put-word, word-first, word-second}
+use Rattle.bdd.proofs.RowsLaws.{child-sees, head-sees, high-packed, length-put, level-packed, level-sees, low-packed, mark-constant, mark-packed, mark-sees, next-sees, owner-packed, owner-sees, put-row, put-same, put-word}
 use Rattle.bdd.specs.Diagram.{Canonical, Row}
 use Rattle.bdd.specs.code.Rows.{RADIX, child, headAt, highAt, levelAt, lowAt, markAt, nextAt, ownerAt, put, wordAt}
 use Rattle.bdd.specs.code.Store.{Agree, Chains, Kept, Store, StoreRoom, bucket, bucketOf}
-use Rattle.bdd.specs.code.Unique.{Cleared, GivenBack, Grown, Is, NewRow, added, emptied, returned, unlinked}
+use Rattle.bdd.specs.code.Unique.{Cleared, GivenBack, Is, NewRow, added, emptied, returned, unlinked}
 use lib.ListN.{length}
 use mathlib.Core.Bool.{Bool, false, true}
 use mathlib.Core.List.{List}
@@ -525,57 +525,3 @@ cleared s limit R t e =
   where
     heads : (b : ℕ) → b < limit → headAt (emptied s limit) b ≡ 0
     heads b lt = emptied-heads s limit (R .long) b lt
-
--- The rows determine their chains.
-module _ (s t : List ℕ) (limit n : ℕ) (A : Agree s t n) where
-  head-least : Chains s limit n → Chains t limit n → (b : ℕ) → b < limit → headAt s b ≤ headAt t b
-  head-least C D b lt =
-      elim (decLt (headAt t b) (headAt s b)) [
-        | yes l ↦ absurd (D .head-highest b lt (headAt s b) l (C .head-stored b lt) (bucket-agree s t limit n (headAt s b) A (C .head-stored b lt) ∙ C .head-bucket b lt (omega arith)))
-        | no l ↦ omega arith
-      ]
-
-  next-least : Chains s limit n → Chains t limit n → (i : ℕ) → 1 ≤ i → i ≤ n → nextAt s i ≤ nextAt t i
-  next-least C D i pos le =
-      elim (decLt (nextAt t i) (nextAt s i)) [
-        | yes l ↦
-            (let h : nextAt s i ≤ n = omega (arith, C .next-lower i pos le) in
-            absurd (D .next-highest i pos le (nextAt s i) l (C .next-lower i pos le)
-            (bucket-agree s t limit n (nextAt s i) A h ∙ C .next-bucket i pos le (omega arith) ∙ sym (bucket-agree s t limit n i A le))))
-        | no l ↦ omega arith
-      ]
-
-agree-back : {s t : List ℕ} {n : ℕ} → Agree s t n → Agree t s n
-agree-back A = record { levels = λ i h. sym (A .levels i h); children = λ b i h. sym (A .children b i h) }
-
-same-next-word : (s t : List ℕ) (limit n : ℕ) → Agree s t n → Chains s limit n → Chains t limit n → (i : ℕ) → i ≤ n → wordAt t 2 i ≡ wordAt s 2 i
-unfolding nextAt wordAt
-same-next-word s t limit n A C D zero le = refl
-same-next-word s t limit n A C D (suc i) le =
-    omega (arith, next-least s t limit n A C D (suc i) (omega arith) le, next-least t s limit n (agree-back A) D C (suc i) (omega arith) le)
-
--- Every word in use is as it was: those of rows 1 to n, and the head of every bucket.
-pub record Restored (s t : List ℕ) (limit n : ℕ) : Type 0 where
-  pub words : (k i : ℕ) → k < 3 → i ≤ n → wordAt t k i ≡ wordAt s k i
-  pub heads : (b : ℕ) → b < limit → headAt t b ≡ headAt s b
-
--- Two stores of the same rows are the same in every word in use.
-pub restored : (s t : List ℕ) (limit n : ℕ) → Store s limit n → Store t limit n → Kept s t n → Restored s t limit n
-restored s t limit n S T K =
-    record {
-      words = words;
-      heads = λ b lt. omega (arith, head-least s t limit n A (S .chains) (T .chains) b lt, head-least t s limit n (agree-back A) (T .chains) (S .chains) b lt);
-    }
-  where
-    A : Agree s t n
-    A = K .agree
-
-    words : (k i : ℕ) → k < 3 → i ≤ n → wordAt t k i ≡ wordAt s k i
-    words zero i lt le = word-first s t i (K .agree .children false i le) (T .unmarked i le ∙ sym (S .unmarked i le)) (K .agree .levels i le)
-    words (suc zero) i lt le = word-second s t i (K .agree .children true i le) (K .owners i le)
-    words (suc (suc zero)) i lt le = same-next-word s t limit n A (S .chains) (T .chains) i le
-    words (suc (suc (suc k))) i lt le = absurd (omega arith)
-
--- Rows that were added and given back leave every word in use as it was.
-pub given-back-restored : (s t v : List ℕ) (limit n u : ℕ) → Store s limit n → Grown s t limit n u → GivenBack t v limit u n → Restored s v limit n
-given-back-restored s t v limit n u S G B = restored s v limit n S (B .store) (kept-then (G .kept) (B .kept) (omega arith))

@@ -1,13 +1,12 @@
 -- The first difference: one input after the other, and the bytes written.
 use Prim.Native.Nat.{_+_, _-_, _<_, _≤_, suc, ℕ}
-use Rattle.bdd.proofs.DiagramLaws.{canonical, cofactor-reference, denote-node, denote-perfect}
+use Rattle.bdd.proofs.DiagramLaws.{canonical, cofactor-reference, denote-node}
 use Rattle.bdd.specs.Diagram.{Canonical, Reference, cofactor, denote}
 use Rattle.bdd.specs.Difference.{Chosen, digits}
 use Rattle.bdd.specs.declared.difference.Choice.{Choice}
 use Rattle.truth.proofs.Booleans.{iff-equal}
 use Rattle.truth.proofs.Equality.{equal-same, same-equal}
-use Rattle.truth.proofs.Order.{first-difference}
-use Rattle.truth.specs.Settings.{FirstDifference, firstDifference}
+use Rattle.truth.specs.Settings.{firstDifference}
 use Rattle.truth.specs.Truth.{Setting, same?}
 use borrow.Author.Tests.{eq-eqb, eqb-true}
 use lib.Dec.{eqb}
@@ -17,12 +16,6 @@ use mathlib.Core.Bool.{Bool, cond, false, true}
 use mathlib.Core.List.{List, [], _++_, _∷_, append-nil}
 use mathlib.Core.Path.{_∙_, _≡_, ap, ap₂, refl, subst, sym}
 use native.Mathlib.Omega.{arith}
-
--- What is written for two different functions is the first setting, in counting order, on which they differ.
-pub denote-first-difference : (rows : List ℕ) (n : ℕ) → Canonical rows n → (m f g : ℕ) → Reference rows n m f → Reference rows n m g → (f ≡ g → ⊥)
-    → FirstDifference m (denote rows m f) (denote rows m g) (firstDifference (denote rows m f) (denote rows m g))
-denote-first-difference rows n C m f g F G d =
-    first-difference (denote-perfect rows m f) (denote-perfect rows m g) (λ e. d (canonical rows n C m f g F G e))
 
 digits-append : (s t : Setting) → digits (s ++ t) ≡ digits s ++ digits t
 unfolding digits

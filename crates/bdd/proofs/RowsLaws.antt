@@ -6,7 +6,7 @@ use lib.Seq.{ext-getD, getD-set-other, getD-set-same}
 use mathlib.Core.Bool.{Bool, false, true}
 use mathlib.Core.List.{List}
 use mathlib.Core.Logic.{_⊎_, inl, inr, ⊎-elim}
-use mathlib.Core.Path.{_∙_, _≡_, ap, refl, subst, sym}
+use mathlib.Core.Path.{_≡_, ap, refl, subst, sym}
 use native.Mathlib.Decide.{ℕ-discrete}
 use native.Mathlib.Omega.{arith}
 
@@ -155,19 +155,6 @@ module _ (rows : List ℕ) where
 pub level-row : (rows : List ℕ) (i : ℕ) → 1 ≤ levelAt rows i → 1 ≤ i
 level-row rows zero h = omega (arith, level-constant rows)
 level-row rows (suc i) h = omega arith
-
--- The fields determine their word.
-packed : (x : ℕ) → x ≡ x / RADIX * RADIX + x / MARK % 2 * MARK + x % MARK
-packed x = omega arith
-
-module _ (s t : List ℕ) (i : ℕ) where
-  pub word-first : lowAt t i ≡ lowAt s i → markAt t i ≡ markAt s i → levelAt t i ≡ levelAt s i → wordAt t 0 i ≡ wordAt s 0 i
-  unfolding lowAt markAt levelAt
-  word-first e f g = packed (wordAt t 0 i) ∙ rw (e, f, g) (sym (packed (wordAt s 0 i)))
-
-  pub word-second : highAt t i ≡ highAt s i → ownerAt t i ≡ ownerAt s i → wordAt t 1 i ≡ wordAt s 1 i
-  unfolding highAt ownerAt
-  word-second e f = omega arith
 
 -- The words determine the list.
 pub words-equal : (s t : List ℕ) → length t ≡ length s → ((k i : ℕ) → k < 4 → wordAt t k i ≡ wordAt s k i) → t ≡ s

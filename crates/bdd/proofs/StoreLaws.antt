@@ -1,5 +1,5 @@
 -- The functions of the rows: each a part, no two alike, one for each row reached.
-use Prim.Native.Nat.{_*_, _+_, _-_, _/_, _<_, _≤_, suc, zero, ℕ}
+use Prim.Native.Nat.{_*_, _-_, _/_, _<_, _≤_, suc, zero, ℕ}
 use Rattle.bdd.proofs.DiagramLaws.{canonical, canonical-inverse, cofactor-hit, denote-inverse, denote-node, denote-perfect, denote-skip, denote-zero, frame, inverse-reference, one-row-alike}
 use Rattle.bdd.proofs.ReferenceLaws.{double-even, double-row, edge-even, edge-row}
 use Rattle.bdd.proofs.RowsLaws.{child-constant, level-constant}
@@ -7,19 +7,18 @@ use Rattle.bdd.specs.Diagram.{Canonical, Reach, Reference, along, arrive
 use Rattle.bdd.specs.code.Rows.{child, highAt, levelAt, lowAt}
 use Rattle.bdd.specs.code.Store.{Agree}
 use Rattle.truth.proofs.Booleans.{clash, not-true, or-cases, or-left, or-right}
-use Rattle.truth.proofs.Distinct.{among-append, among-congruent, apart-distinct, distinct-same}
+use Rattle.truth.proofs.Distinct.{among-append, apart-distinct, distinct-same}
 use Rattle.truth.proofs.Equality.{alike-cases, same-equal, same-reflexive}
 use Rattle.truth.proofs.Parts.{PartOf, alike-depth, alike-sameness, high, itself, low, part-cases, part-high, part-low, part-self, parts-alike, parts-leaf, parts-node}
 use Rattle.truth.specs.Distinct.{among, apart}
 use Rattle.truth.specs.Parts.{alike?, allParts, depends?, parts, together}
-use Rattle.truth.specs.Truth.{Perfect, Truth, node, same?, valueAt}
+use Rattle.truth.specs.Truth.{Truth, node, same?, valueAt}
 use lib.ListN.{length}
 use mathlib.Core.Bool.{Bool, false, not, or-self, true}
-use mathlib.Core.List.{List, [], _++_, _∷_}
+use mathlib.Core.List.{List, [], _∷_}
 use mathlib.Core.Logic.{_⊎_, inl, inr, ⊎-elim}
 use mathlib.Core.Path.{_∙_, _≡_, ap, ap₂, refl, subst, sym}
 use native.Mathlib.Decide.{le-ind, ℕ-discrete}
-use native.Mathlib.Nat.{suc-add, zero-add}
 use native.Mathlib.Omega.{arith}
 
 -- An input that a function does not depend on changes nothing in its parts.
@@ -77,11 +76,6 @@ store-length rows (suc n) = ap suc (store-length rows n)
 
 pub row-reference : (rows : List ℕ) (n i : ℕ) → i ≤ n → Reference rows n (levelAt rows i) (i * 2)
 row-reference rows n i le = record { stored = rw (double-row i) le; fits = rw (double-row i) (omega arith) }
-
--- A row's function has its level's inputs.
-pub row-perfect : (rows : List ℕ) (i : ℕ) → Perfect (levelAt rows i) (rowFunction rows i)
-unfolding rowFunction
-row-perfect rows i = denote-perfect rows (levelAt rows i) (i * 2)
 
 -- Where the functions are alike, so are the rows one: two references have one row exactly where their functions are equal or inverse.
 pub alike-row : (rows : List ℕ) (n : ℕ) → Canonical rows n → (m r q : ℕ) → Reference rows n m r → Reference rows n m q
@@ -224,11 +218,6 @@ part-reach rows n C t i le = go i i (omega arith) le
         ]
 
 module _ (rows : List ℕ) (n : ℕ) (C : Canonical rows n) where
-  pub reached-part : (t : Truth) (i : ℕ) → i ≤ n → Reached rows i t → among alike? t (parts (rowFunction rows i)) ≡ true
-  reached-part t i le R =
-      among-congruent alike? alike-sameness t (rowFunction rows (R .row)) (parts (rowFunction rows i)) (R .is)
-      ∙ reach-part rows n C (R .reach) le (R .pos)
-
   -- Each part of a function that a reference denotes is the function of a row.
   pub part-stored : (m r : ℕ) → Reference rows n m r → (t : Truth) → among alike? t (parts (denote rows m r)) ≡ true → among alike? t (storeOf rows n) ≡ true
   part-stored m r R t h =
@@ -268,16 +257,6 @@ module _ (s t : List ℕ) (n : ℕ) (C : Canonical s n) (A : Agree s t n) where
   pub store-new : storeOf t (suc n) ≡ rowFunction t (suc n) ∷ storeOf s n
   unfolding storeOf
   store-new = ap (_∷_ (rowFunction t (suc n))) (store-frame n (omega arith))
-
--- The functions of the rows above n.
-unfoldable pub newer : List ℕ → ℕ → ℕ → List Truth
-newer rows n zero = []
-newer rows n (suc k) = rowFunction rows (suc (k + n)) ∷ newer rows n k
-
-pub store-suffix : (s t : List ℕ) (n : ℕ) → Canonical s n → Agree s t n → (k : ℕ) → storeOf t (k + n) ≡ newer t n k ++ storeOf s n
-unfolding storeOf newer
-store-suffix s t n C A zero = ap (storeOf t) (zero-add n) ∙ store-frame s t n C A n (omega arith)
-store-suffix s t n C A (suc k) = ap (storeOf t) (suc-add k n) ∙ ap (_∷_ (rowFunction t (suc (k + n)))) (store-suffix s t n C A k)
 
 -- "each row is one distinct part": where the functions of the rows are the parts of some functions, there are as many rows as these have parts together.
 pub rows-together : (rows : List ℕ) (n : ℕ) → Canonical rows n → (fs : List Truth)

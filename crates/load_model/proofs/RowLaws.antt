@@ -1,10 +1,6 @@
 -- What a good graph says of its rows.
 use Prim.Native.Nat.{_+_, _<_, _≤_, ℕ}
-use Rattle.aig.proofs.FoldLaws.{fold-ordered}
-use Rattle.aig.specs.Fold.{foldOf}
-use Rattle.aig.specs.Literal.{lit}
 use Rattle.aig.specs.Lookup.{Entered, HoldsRow, firstWord, secondWord}
-use Rattle.aig.specs.declared.fold.Folded.the-variants.{Pair}
 use Rattle.load_model.specs.Build.{Build}
 use Rattle.load_model.specs.code.Good.{Good}
 use mathlib.Core.Path.{_∙_, _≡_, sym}
@@ -12,11 +8,6 @@ use native.Mathlib.Decide.{decLt}
 use native.Mathlib.Omega.{arith}
 
 module _ {n : ℕ} {b : Build} (g : Good n b) where
-  -- Every row is its own fold.
-  pub row-own-fold : (v : ℕ) → n < v → v < b .count
-      → foldOf (firstWord (b .words) v) (secondWord (b .words) v) ≡ Pair (lit (firstWord (b .words) v)) (lit (secondWord (b .words) v))
-  row-own-fold v h k = fold-ordered (firstWord (b .words) v) (secondWord (b .words) v) (g .rows v h k .unfolded)
-
   -- A vertex whose words differ is a made one.
   pub entered-made : (v : ℕ) → Entered (b .words) v → n < v
   entered-made v e =

@@ -12,15 +12,15 @@ use Rattle.load_model.specs.code.Grown.{rowsAfter}
 use Rattle.load_model.specs.Load.{loadedGraph}
 use Rattle.load_model.specs.code.Valued.{Begins, PairMeans, StandsFor, Valuation, Valued}
 use Rattle.netlist.proofs.ValueLaws.{function-from-ands, value-from-ands}
-use Rattle.netlist.specs.Meaning.{fileFunction, fileValue, operationFunction, referenceFunction, vertexResults}
+use Rattle.netlist.specs.Meaning.{fileValue, operationFunction}
 use Rattle.netlist.specs.Netlist.{Netlist}
 use Rattle.netlist.specs.declared.records.Operation.{Operation}
 use Rattle.table.proofs.FunctionLaws.{first-function-false, first-functions-perfect, length-first-functions}
 use Rattle.table.proofs.MeaningLaws.{row-value, value-kept, values-good}
 use Rattle.table.specs.Accepted.{RowBelow}
-use Rattle.table.specs.Table.{firstFunctions, functionsOf, outputFunction, outputValue, outputs, valuesOn}
+use Rattle.table.specs.Table.{firstFunctions, outputValue, outputs, valuesOn}
 use Rattle.table.specs.Values.{rowValue, vertexValues}
-use Rattle.truth.specs.Truth.{Perfect, Setting, Truth, conj, constantly, invert}
+use Rattle.truth.specs.Truth.{Perfect, Setting, conj, constantly, invert}
 use lib.ListN.{getD, length}
 use mathlib.Core.Bool.{Bool, _&&_, false, not}
 use mathlib.Core.List.{List, _∷_}
@@ -96,17 +96,3 @@ module _ (d e : Netlist) (inputs : d .inputs ≡ e .inputs) where
     unfolding outputValue outputs valuesOn fileValue
     right-value k s l h =
         rw (table-graph d e inputs old counts) (graph-means (bit-valuation s) value-from-ands d e (omega arith) inputs .right k l)
-
-    -- The outputs of side 1 have the first file's functions,
-    pub left-function : (k : ℕ) → k < length (d .outputs) → outputFunction (loadedGraph d e old) 1 k ≡ fileFunction d k
-    unfolding outputFunction outputs functionsOf fileFunction
-    left-function k l = rw (table-graph d e inputs old counts) (functions-mean .left k l)
-
-    -- and those of side 2 the second's.
-    pub right-function : (k : ℕ) → k < length (e .outputs) → outputFunction (loadedGraph d e old) 2 k ≡ fileFunction e k
-    unfolding outputFunction outputs functionsOf fileFunction
-    right-function k l = rw (table-graph d e inputs old counts) (functions-mean .right k l ∙ ap function inputs)
-      where
-        function : ℕ → Truth
-        function n =
-            referenceFunction n (vertexResults invert conj (constantly n false) operationFunction (firstFunctions n) (e .gates)) (getD (e .outputs) k 0)

@@ -11,7 +11,7 @@ use Rattle.netlist.specs.declared.records.Operation.the-variants.{And, O
 use Rattle.netlist.specs.declared.records.Operation.{Operation}
 use lib.ListN.{List·getD-append, getD, length, length-append}
 use lib.Seq.{getD-at}
-use mathlib.Core.List.{List, [], _++_, _∷_, append-assoc}
+use mathlib.Core.List.{List, [], _++_, _∷_}
 use mathlib.Core.Path.{_∙_, _≡_, ap₂, refl, sym}
 use native.Mathlib.Omega.{arith}
 
@@ -53,12 +53,6 @@ module _ {A : Type 0} (inverse : A → A) (both : A → A → A) (falsum : A) (o
   unfolding vertexResults
   results-append vs [] hs = refl
   results-append vs (g ∷ gs) hs = results-append (vs ++ result vs g ∷ []) gs hs
-
-  -- Their ANDs.
-  pub ands-append : (vs : List A) (gs hs : List Gate) → ands vs (gs ++ hs) ≡ ands vs gs ++ ands (results vs gs) hs
-  unfolding vertexResults andsFrom
-  ands-append vs [] hs = refl
-  ands-append vs (g ∷ gs) hs = rw (ands-append (vs ++ result vs g ∷ []) gs hs) (simp append-assoc)
 
   -- There are as many ANDs as are counted.
   pub ands-length : (vs : List A) (gs : List Gate) → length (ands vs gs) ≡ andCount gs

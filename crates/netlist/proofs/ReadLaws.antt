@@ -4,7 +4,7 @@ use Rattle.netlist.proofs.CheckLaws.{Taken, records-accepted, taken}
 use Rattle.netlist.proofs.FileLaws.{bytes-read, file-written, within-spelled}
 use Rattle.netlist.proofs.LineLaws.{line-ahead}
 use Rattle.netlist.specs.code.Accepted.{HoldsNetlist, countsIn, summaryOf}
-use Rattle.netlist.specs.Check.{Answer, Counts, accepted, answerOf, body, checkFile, gatesIn, netlistIn, outputsIn, read, readBy, readNetlist, refused, unread}
+use Rattle.netlist.specs.Check.{Answer, Counts, accepted, answerOf, body, checkFile, gatesIn, netlistIn, outputsIn, read, readBy, readNetlist, refused}
 use Rattle.netlist.specs.Netlist as netlist
 use Rattle.netlist.specs.Netlist.{Netlist, Within, bodyRecords, bytesOf, gateRecord, headerRecord, linesBytes, netlistRecords}
 use Rattle.netlist.specs.Records.{fileRecords}
@@ -101,15 +101,6 @@ read-holds bytes d e = go (checkFile bytes) refl e
         let held : t .held ≡ d = sym (ap₂ netlistIn i (t .records) ∙ netlist-in (t .held)) ∙ is in
         subst (λ (x : Netlist). HoldsNetlist bytes (summaryOf (length (upTo 10 bytes) + 1) x) x) held (records-hold (t .within) bytes (t .records))
 
--- It was accepted.
-pub read-accepted : (bytes : List ℕ) (d : Netlist) → readNetlist bytes ≡ read d → checkFile bytes ≡ accepted (countsIn d)
-read-accepted bytes d e = let h = read-holds bytes d e in records-checked (h .within) bytes (h .records)
-
 -- Whatever is read is the bytes of what it gives, which keeps the limits.
 pub read-only : (bytes : List ℕ) (d : Netlist) → readNetlist bytes ≡ read d → (bytes ≡ bytesOf d) × Within d
 read-only bytes d e = let h = read-holds bytes d e in (h .file, h .within)
-
--- A refusal is the same in both.
-pub read-refused : (bytes : List ℕ) (k n : ℕ) → checkFile bytes ≡ refused k n → readNetlist bytes ≡ unread k n
-unfolding readNetlist readBy
-read-refused bytes k n e = rw e refl

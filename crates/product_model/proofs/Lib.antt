@@ -7,7 +7,5 @@ pub mod Conjunction
 pub mod Ran
 pub mod Store
 pub mod Run
-pub mod Part
 pub mod Inputs
-pub mod Kept
 pub mod Larger

@@ -1,11 +1,11 @@
 -- Laws of lists whose members are all members of another.
-use Rattle.truth.proofs.Booleans.{and-left, clash, not-true, or-cases, or-left, or-right}
+use Rattle.truth.proofs.Booleans.{clash, or-cases, or-left, or-right}
 use Rattle.truth.proofs.Distinct.{Within, among-append, among-congruent}
-use Rattle.truth.specs.Distinct.{Sameness, among, apart}
-use mathlib.Core.Bool.{Bool, not, or-false, true}
+use Rattle.truth.specs.Distinct.{Sameness, among}
+use mathlib.Core.Bool.{Bool, or-false, true}
 use mathlib.Core.List.{List, [], _++_, _∷_}
 use mathlib.Core.Logic.{⊎-elim}
-use mathlib.Core.Path.{_∙_, _≡_, ap, refl, sym}
+use mathlib.Core.Path.{_∙_, _≡_, refl, sym}
 
 module _ {A : Type 0} (same : A → A → Bool) where
   -- The empty list has no members.
@@ -27,12 +27,3 @@ module _ {A : Type 0} (same : A → A → Bool) where
   pub within-one : Sameness same → (x : A) (ys : List A) → among same x ys ≡ true → Within same (x ∷ []) ys
   unfolding among
   within-one S x ys e z h = among-congruent same S z x ys (sym (or-false (same z x)) ∙ h) ∙ e
-
-  -- A list without repeats whose first members are all members of the rest has no such first members.
-  pub apart-none : Sameness same → (xs ys : List A) → apart same (xs ++ ys) ≡ true → Within same xs ys → xs ≡ []
-  unfolding among apart
-  apart-none S [] ys a w = refl
-  apart-none S (x ∷ xs) ys a w =
-      clash
-      (within-right xs ys x (w x (or-left (same x x) (among same x xs) (S .reflexive x))))
-      (not-true (among same x (xs ++ ys)) (λ e. clash (and-left (not (among same x (xs ++ ys))) (apart same (xs ++ ys)) a) (ap not e)))

@@ -274,9 +274,3 @@ module _ {rowLimit stepLimit : ℕ} {ps : List Truth} {l n : ℕ} {b : Book} whe
   is-short-of-steps {c = c} (ran-steps {c = d} S) e = let i : d ≡ c = cc in rw i at S
   is-short-of-steps (ran-done D) e = impossible (cc)
   is-short-of-steps (ran-rows R) e = impossible (cc)
-
-  pub enough : {o : Outcome} → Ran rowLimit stepLimit ps l n b o → b .steps + n ≤ stepLimit → length (distinct alike? (ps ++ b .store)) ≤ rowLimit
-      → (c : Book) × (o ≡ done c)
-  enough (ran-done {c = c} D) s r = (c, refl)
-  enough (ran-rows R) s r = absurd (omega arith)
-  enough (ran-steps S) s r = absurd (omega arith)

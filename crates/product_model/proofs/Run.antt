@@ -1,14 +1,11 @@
 -- The laws of a run of two functions that have their rows, from a book within its limits.
-use Prim.Native.Nat.{_+_, _≤_, ℕ}
-use Rattle.product_model.proofs.Ran.{Done, ShortOfRows, ShortOfSteps, enough, is-done, is-short-of-rows, is-short-of-steps, run-ran}
+use Prim.Native.Nat.{ℕ}
+use Rattle.product_model.proofs.Ran.{Done, ShortOfRows, ShortOfSteps, is-done, is-short-of-rows, is-short-of-steps, run-ran}
 use Rattle.product_model.specs.code.Books.{Proper, Stored}
 use Rattle.product_model.specs.Run.{Book, done, run, shortOfRows, shortOfSteps}
-use Rattle.truth.specs.Distinct.{distinct}
-use Rattle.truth.specs.Parts.{alike?, parts}
+use Rattle.truth.specs.Parts.{parts}
 use Rattle.truth.specs.Steps.{steps}
 use Rattle.truth.specs.Truth.{Perfect, Truth, conj}
-use lib.ListN.{length}
-use mathlib.Core.List.{_++_}
 use mathlib.Core.Path.{_≡_}
 
 module _ {rowLimit stepLimit : ℕ} {m : ℕ} {f g : Truth} {b : Book} (p : Perfect m f) (q : Perfect m g)
@@ -24,8 +21,3 @@ module _ {rowLimit stepLimit : ℕ} {m : ℕ} {f g : Truth} {b : Book} (p : Perf
   -- Short of steps: the count is the step limit, and the product steps pass it.
   pub run-steps : {c : Book} → run rowLimit stepLimit f g b ≡ shortOfSteps c → ShortOfSteps rowLimit stepLimit (parts (conj f g)) (steps f g) b c
   run-steps e = is-short-of-steps (run-ran rowLimit stepLimit p q P v w) e
-
-  -- Where neither total passes its limit, the run is done.
-  pub run-enough : b .steps + steps f g ≤ stepLimit → length (distinct alike? (parts (conj f g) ++ b .store)) ≤ rowLimit
-      → (c : Book) × (run rowLimit stepLimit f g b ≡ done c)
-  run-enough = enough (run-ran rowLimit stepLimit p q P v w)

@@ -1,11 +1,11 @@
 -- What the endings say of the store: which rows it has, and how many.
 use Prim.Native.Nat.{_<_, ℕ}
-use Rattle.product_model.proofs.Members.{apart-none, within-append}
-use Rattle.product_model.proofs.Ran.{Done, Grown, ShortOfRows, grown-from, kept}
+use Rattle.product_model.proofs.Members.{within-append}
+use Rattle.product_model.proofs.Ran.{Done, ShortOfRows, grown-from, kept}
 use Rattle.product_model.specs.code.Books.{HoldsParts, Proper}
 use Rattle.product_model.specs.Run.{Book}
 use Rattle.truth.proofs.Booleans.{iff-equal}
-use Rattle.truth.proofs.Distinct.{Within, among-append, apart-distinct, distinct-same}
+use Rattle.truth.proofs.Distinct.{among-append, apart-distinct, distinct-same}
 use Rattle.truth.proofs.Parts.{alike-sameness}
 use Rattle.truth.specs.Distinct.{among, distinct}
 use Rattle.truth.specs.Parts.{alike?, allParts, parts, together}
@@ -51,16 +51,6 @@ module _ {rowLimit stepLimit : ℕ} where
   done-rows {ps} {b = b} {c = c} D =
       sym (ap length (apart-distinct alike? alike-sameness (c .store) (D .grown .proper .no-repeats)))
       ∙ distinct-same alike? alike-sameness (c .store) (ps ++ b .store) (done-all D)
-
-  -- Done: where every member of ps had its row, the store is as it was.
-  pub done-none : {ps : List Truth} {n : ℕ} {b c : Book} → Done rowLimit stepLimit ps n b c → Within alike? ps (b .store) → c .store ≡ b .store
-  done-none {ps} {b = b} {c = c} D w =
-      G .store
-      ∙ ap (λ fs. fs ++ b .store)
-      (apart-none alike? alike-sameness (G .added) (b .store) (rw (G .store) at (G .proper .no-repeats)) (λ t h. w t (G .added-parts t h)))
-    where
-      G : Grown rowLimit stepLimit ps b c
-      G = D .grown
 
   -- Done: the rows are then the parts of one function more.
   pub done-holds : (f : Truth) {fs : List Truth} {n : ℕ} {b c : Book} → HoldsParts b fs → Done rowLimit stepLimit (parts f) n b c → HoldsParts c (f ∷ fs)

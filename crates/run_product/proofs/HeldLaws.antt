@@ -1,5 +1,5 @@
 -- References stay good while rows are added, given back, and followed.
-use Prim.Native.Nat.{_%_, _*_, _-_, _/_, _<_, _≤_, suc, zero, ℕ}
+use Prim.Native.Nat.{_%_, _-_, _/_, _<_, _≤_, suc, zero, ℕ}
 use Rattle.bdd.proofs.DiagramLaws.{cofactor-below, constant-reference, frame-reference}
 use Rattle.bdd.proofs.MakeLaws.{grown-reference}
 use Rattle.bdd.proofs.ReferenceLaws.{edge-row}
@@ -9,7 +9,7 @@ use Rattle.bdd.specs.code.Unique.{GivenBack, Grown}
 use Rattle.product.proofs.Laws.{back}
 use Rattle.run_product.specs.code.Held.{AllWalk, Held, Turned, Walks}
 use Rattle.run_product.specs.declared.diagram.Turn.{Turn}
-use lib.ListN.{List·getD-eq-default, getD, length, replicate, set}
+use lib.ListN.{List·getD-eq-default, getD, replicate, set}
 use mathlib.Core.Bool.{Bool}
 use mathlib.Core.List.{List, [], _∷_}
 use mathlib.Core.Logic.{_⊎_, inl, inr, ⊎-elim}
@@ -66,9 +66,6 @@ broken-off H G B before under turn e =
 pub held-walks : {rows references : List ℕ} {limit used inputs : ℕ} → Held rows references limit used inputs → AllWalk rows references inputs
 held-walks {used = used} H =
     record { each = λ v. record { used = used; canonical = H .store .canonical; long = omega (arith, H .store .room .used, H .store .room .long); here = H .each v } }
-
-pub walks-long : {rows : List ℕ} {inputs r : ℕ} → Walks rows inputs r → r / 2 * 4 ≤ length rows
-walks-long W = omega (arith, W .long, W .here .stored)
 
 pub walks-down : {rows : List ℕ} {level r : ℕ} → Walks rows level r → 1 ≤ level → (b : Bool) {e : ℕ} → e ≡ cofactor rows b level r → Walks rows (level - 1) e
 walks-down {rows} {level} {r} W pos b eq =

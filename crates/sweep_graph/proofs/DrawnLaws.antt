@@ -5,7 +5,6 @@ use Rattle.aig.specs.Literal.{vertexOf}
 use Rattle.aig.specs.Lookup.{firstWord, secondWord, withRow}
 use Rattle.bdd.specs.Diagram.{edge}
 use Rattle.bdd.specs.code.Owners.{withOwner}
-use Rattle.bdd.specs.code.Rows.{put}
 use Rattle.sweep_graph.proofs.StageLaws.{stage-word}
 use Rattle.sweep_graph.proofs.TakeLaws.{handed-room, take-room}
 use Rattle.sweep_graph.specs.code.Graph.{Graph}
@@ -16,7 +15,6 @@ use Rattle.sweep_model.specs.Normalise.{merged?, wake}
 use Rattle.sweep_model.specs.State.{gone, gone?, has?}
 use Rattle.truth.proofs.Booleans.{clash}
 use lib.Dec.{eqb}
-use lib.ListN.{length}
 use lib.Seq.{getD-set-other, getD-set-same}
 use mathlib.Core.Bool.{Bool, cond, false, true}
 use mathlib.Core.List.{List}
@@ -120,46 +118,3 @@ module _ (Q : ℕ → ℕ → ℕ → Type 0) (count : ℕ) where
       let lw : vertexOf (firstWord pairs v) < count = omega (arith, g .downward .first-below v from lv) in
       takes-drawn g over n (suc v) (takeWords pairs v h) (omega arith) (omega arith) (take-room pairs v h lv lw r)
       (take-drawn pairs v h lv lw r (λ e c s. over v c s from lv e) d)
-
--- What holds of the rows of diagrams, and still holds where a row has another owner, holds after handing over.
-module _ (R : List ℕ → Type 0) (count : ℕ) (owned : (rows : List ℕ) (i w : ℕ) → 1 ≤ i → i * 4 ≤ length rows → w < count → R rows → R (withOwner rows i w)) where
-  -- The constant has no row.
-  owner-kept : (rows : List ℕ) (i w : ℕ) → i * 4 ≤ length rows → w < count → R rows → R (withOwner rows i w)
-  unfolding withOwner put
-  owner-kept rows zero w within few r = r
-  owner-kept rows (suc i) w within few r = owned rows (suc i) w (omega arith) within few r
-
-  take-rows :
-      (pairs : List ℕ) (v : ℕ) (h : Held) → v < count → vertexOf (firstWord pairs v) < count → TakesRoom count h → R (h .rows) → R (takeWords pairs v h .rows)
-  unfolding takeWords handedOver
-  take-rows pairs v h lv lw room r =
-      go (merged? pairs v) (gone? (wordStage (firstWord (h .stages) v))) (hasWord (h .stages) v) (hasWord (h .stages) (vertexOf (firstWord pairs v)))
-    where
-      given : R (withOwner (h .rows) (firstWord (h .diagrams) v / 2) (vertexOf (firstWord pairs v)))
-      given = owner-kept (h .rows) (firstWord (h .diagrams) v / 2) (vertexOf (firstWord pairs v)) (room .rows-within v lv) lw r
-
-      go : (a b mine its : Bool)
-          → R ((cond a
-          (cond b h
-          (leave v
-          (cond mine
-          (held (wakeWords (vertexOf (firstWord pairs v)) (h .stages)) (takenDiagrams v (firstWord pairs v) (h .stages) (h .diagrams))
-          (withOwner (h .rows) (firstWord (h .diagrams) v / 2) (vertexOf (firstWord pairs v))))
-          (cond its (held (wakeWords (vertexOf (firstWord pairs v)) (h .stages)) (h .diagrams) (h .rows)) h))))
-          h) .rows)
-      go true true mine its = r
-      go true false true its = given
-      go true false false true = r
-      go true false false false = r
-      go false b mine its = r
-
-  -- n vertices' turns.
-  pub takes-rows :
-      {pairs : List ℕ} {first : ℕ} → Graph first count pairs → (n v : ℕ) (h : Held) → first ≤ v → v + n ≤ count → TakesRoom count h → R (h .rows)
-      → R (takesWords pairs v n h .rows)
-  unfolding takesWords
-  takes-rows g zero v h from to room r = r
-  takes-rows {pairs} {first} g (suc n) v h from to room r =
-      let lv : v < count = omega arith in
-      let lw : vertexOf (firstWord pairs v) < count = omega (arith, g .downward .first-below v from lv) in
-      takes-rows g n (suc v) (takeWords pairs v h) (omega arith) (omega arith) (take-room pairs v h lv lw room) (take-rows pairs v h lv lw room r)

@@ -1,5 +1,5 @@
 -- Handing over: what the code's steps come to, and the pass from turn to turn.
-use Prim.Native.Nat.{_*_, _+_, _-_, _/_, _<_, _≤_, suc, zero, ℕ}
+use Prim.Native.Nat.{_*_, _+_, _-_, _/_, _<_, _≤_, suc, ℕ}
 use Rattle.aig.proofs.IndexLaws.{row-holds, row-length}
 use Rattle.aig.specs.Literal.{vertexOf}
 use Rattle.aig.specs.Lookup.{firstWord, secondWord, withRow}
@@ -230,13 +230,3 @@ module _ {pairs : List ℕ} {first count : ℕ} (g : Graph first count pairs) wh
     taking-ends l =
         let none : count - v ≡ 0 = omega arith in
         ap (λ (n : ℕ). takesWords pairs v n h) (sym none) ∙ t .ahead
-
--- A pass keeps the room.
-pub takes-room :
-    {pairs : List ℕ} {first count : ℕ} → Graph first count pairs → (n v : ℕ) (h : Held) → first ≤ v → v + n ≤ count → TakesRoom count h
-    → TakesRoom count (takesWords pairs v n h)
-unfolding takesWords
-takes-room g zero v h from to r = r
-takes-room {pairs} {first} {count} g (suc n) v h from to r =
-    takes-room g n (suc v) (takeWords pairs v h) (omega arith) (omega arith)
-    (take-room pairs v h (omega arith) (omega (arith, g .downward .first-below v from (omega arith))) r)

@@ -1,14 +1,14 @@
 -- The bound on the turns is never reached.
 use Prim.Native.Nat.{_+_, _≤_, suc, zero, ℕ}
 use Rattle.sweep_model.proofs.Choices.{no-turns-no-pick, pick-waits}
-use Rattle.sweep_model.proofs.Induction.{Claim, Keeps, Reached, endings-keep, go-claim, goes-on, start-claim, stops, turn-claim}
+use Rattle.sweep_model.proofs.Induction.{Claim, Keeps, Reached, endings-keep, goes-on, stops, turn-claim}
 use Rattle.sweep_model.proofs.Stages.{has-not-gone, stage-within, waits-has}
 use Rattle.sweep_model.proofs.Steady.{openedAt}
 use Rattle.sweep_model.proofs.Turns.{turns-set, waiting-turns}
 use Rattle.sweep_model.specs.Fit.{Fit, vertexCount}
 use Rattle.sweep_model.specs.State.{Problem, State, opened, stageOf, waits?}
 use Rattle.sweep_model.specs.code.Steady.{Scanning, Steady}
-use Rattle.sweep_model.specs.Sweep.{Candidate, Progress, Verdict, andThen, at, go, goFor, none, on, openAt, pickFrom, start, turnsLeft, turnsOf}
+use Rattle.sweep_model.specs.Sweep.{Candidate, Progress, Verdict, andThen, at, go, goFor, none, on, openAt, pickFrom, turnsLeft, turnsOf}
 use mathlib.Core.Bool.{true}
 use mathlib.Core.List.{List}
 use mathlib.Core.Path.{_∙_, _≡_, refl, sym}
@@ -23,16 +23,6 @@ open-turns s v w =
       turns-set (s .stages) v opened (stage-within (s .stages) v (has-not-gone (stageOf (s .stages) v) (waits-has (stageOf (s .stages) v) w))),
       waiting-turns (stageOf (s .stages) v) w,
     )
-
--- What is known of a state where the sweep goes on.
-pub claim-on : {P : State → Type 0} {W : Verdict → State → Type 0} {o : Progress} {s : State} → Claim P W o → o ≡ on s → P s
-claim-on {P} {W} {o} {s} c e = at-on (subst-claim c)
-  where
-    subst-claim : Claim P W o → Claim P W (on s)
-    subst-claim c = rw e at c
-
-    at-on : Claim P W (on s) → P s
-    at-on (goes-on h) = h
 
 -- Nothing is asked of the states.
 pub nothing : (p : Problem) (entry : List ℕ) → Keeps p entry (λ place s. Unit {0}) (λ x s. Unit {0})
@@ -105,16 +95,3 @@ module _ {p : Problem} {entry : List ℕ} (fit : Fit p entry) where
   pub go-enough : (n : ℕ) (s : State) → Steady p entry s → Scanning p n (vertexCount p) s → goFor p n s ≡ go p s
   unfolding go
   go-enough n s h c = same-end n (turnsLeft (s .stages)) s (record { steady = h; scanned = c; kept = tt }) (omega arith)
-
-  -- Where the turns end without a verdict none waits, and the state is as between two turns.
-  pub go-quiet :
-      (s t : State) → Steady p entry s → Scanning p (turnsLeft (s .stages)) (vertexCount p) s → go p s ≡ on t
-      → Steady p entry t × Scanning p (turnsLeft (t .stages)) (vertexCount p) t × (pickFrom p 0 (t .stages) ≡ none)
-  unfolding go
-  go-quiet s t h c e =
-      let q = claim-on (go-claim fit (nothing p entry) (turnsLeft (s .stages)) s (record { steady = h; scanned = c; kept = tt })) e in
-      (q .reached .steady, scanning-budget (turnsLeft (t .stages)) (q .reached .scanned) (omega arith), q .none-waits)
-
-  -- Where the start goes on, the turns begin.
-  pub start-reaches : (s : State) → start p entry ≡ on s → Steady p entry s × Scanning p (turnsLeft (s .stages)) (vertexCount p) s
-  start-reaches s e = let c = claim-on (start-claim fit (nothing p entry)) e in (c .steady, c .scanned)

@@ -130,16 +130,6 @@ bare-wake x = not-true (bare? (wake x)) (λ e. clash (has-wake x) (bare-lacks (w
 pub gone-wake : (x : Stage) → gone? (wake x) ≡ false
 gone-wake x = has-not-gone (wake x) (has-wake x)
 
--- An open vertex stays open when woken, and no other opens.
-pub open-wake : (x : Stage) → open? (wake x) ≡ open? x
-unfolding wake open?
-open-wake bare = refl
-open-wake waiting = refl
-open-wake opened = refl
-open-wake again = refl
-open-wake dropped = refl
-open-wake gone = refl
-
 -- Waking twice is waking once.
 pub wake-wake : (x : Stage) → wake (wake x) ≡ wake x
 unfolding wake

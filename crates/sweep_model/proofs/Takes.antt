@@ -2,11 +2,11 @@
 use Prim.Native.Nat.{_+_, _-_, _<_, _≤_, suc, zero, ℕ}
 use Rattle.aig.specs.Literal.{vertexOf}
 use Rattle.aig.specs.Lookup.{firstWord}
-use Rattle.sweep_model.proofs.Stages.{bare-wake, gone-is, gone-wake, has-wake, open-wake, stage-within, wake-wake, woken-constant, woken-length, woken-other, woken-same}
+use Rattle.sweep_model.proofs.Stages.{bare-wake, gone-is, gone-wake, has-wake, stage-within, wake-wake, woken-constant, woken-length, woken-other, woken-same}
 use Rattle.sweep_model.proofs.Tidy.{first-unmerged, made-merged, merged-made}
 use Rattle.sweep_model.specs.Fit.{Downward}
 use Rattle.sweep_model.specs.Normalise.{merged?, takeAt, takesFrom, wake, wakeAt, wasMerged?}
-use Rattle.sweep_model.specs.State.{Stage, bare?, gone, gone?, has?, open?, opened, stageOf}
+use Rattle.sweep_model.specs.State.{Stage, bare?, gone, gone?, has?, opened, stageOf}
 use Rattle.sweep_model.specs.code.Steady.{Staged, Tidy}
 use Rattle.truth.proofs.Booleans.{clash}
 use lib.ListN.{length, length-set, set}
@@ -202,14 +202,6 @@ module _ {first : ℕ} {rows : List ℕ} {k n : ℕ} {old new : List Stage} (h :
       go : Fate first rows k n old new u → has? (stageOf new u) ≡ true
       go (left-alone a f) = ap has? a ∙ e
       go (woken a z v l i w j f) = ap has? a ∙ has-wake (stageOf old u)
-
-  -- It stays open, or not.
-  pub taken-open : open? (stageOf new u) ≡ open? (stageOf old u)
-  taken-open = go (h .fate u unmerged)
-    where
-      go : Fate first rows k n old new u → open? (stageOf new u) ≡ open? (stageOf old u)
-      go (left-alone a f) = ap open? a
-      go (woken a z v l i w j f) = ap open? a ∙ open-wake (stageOf old u)
 
   -- A vertex that is bare was so before.
   pub taken-bare : bare? (stageOf new u) ≡ true → bare? (stageOf old u) ≡ true

@@ -109,17 +109,6 @@ moves-on {first} {count} {rows} {mid} {other} d e m n =
     seconds : (v : ℕ) → first ≤ v → v < count → resolve other (resolve mid (secondWord rows v)) ≡ resolve other (secondWord rows v)
     seconds v l h = resolve-twice e n (secondWord rows v) (omega (arith, d .second-below v l h))
 
--- Tidy rows stay as they are.
-pub moves-nowhere : {first count : ℕ} {rows : List ℕ} → Downward first count rows → Tidy first count rows → Moves first count rows rows
-moves-nowhere {first} {count} {rows} d t =
-    record {
-      long = refl;
-      still = λ v l h k. k;
-      into = λ v l h k. sym (resolve-kept d (firstWord rows v) (t .first-stays v l h));
-      pairs = λ v l h k.
-          straight (sym (resolve-kept d (firstWord rows v) (t .first-stays v l h))) (sym (resolve-kept d (secondWord rows v) (t .second-stays v l h)));
-    }
-
 -- Rows that are tidy below vertex k are so wherever the rows below it are the same.
 pub tidy-agree :
     {first count k : ℕ} {rows other : List ℕ} → Downward first count rows → k ≤ count → Tidy first k rows

@@ -1,7 +1,7 @@
 -- The functions of a graph against its values on each setting.
 use Prim.Native.Nat.{_*_, _+_, _<_, _≤_, suc, zero, ℕ}
 use Rattle.aig.proofs.TruthLaws.{functions}
-use Rattle.aig.proofs.ValuesLaws.{all-good, value-good}
+use Rattle.aig.proofs.ValuesLaws.{all-good}
 use Rattle.aig.specs.Values.{AllGood}
 use Rattle.table.proofs.MeaningLaws.{length-values, literal-mapped, row-value, value-kept, values-good, values-mapped, values-unique}
 use Rattle.table.specs.Accepted.{Downward, RowBelow}
@@ -92,11 +92,6 @@ module _ (g : Graph) where
   pub functions-perfect : AllGood (Perfect (g .inputs)) (constantly (g .inputs) false) (functionsOf g)
   unfolding functionsOf
   functions-perfect = values-good (functions (g .inputs)) (firstFunctions (g .inputs)) (g .rows) (first-functions-perfect (g .inputs))
-
-  -- So has every output.
-  pub output-perfect : (side k : ℕ) → Perfect (g .inputs) (outputFunction g side k)
-  unfolding outputFunction
-  output-perfect side k = value-good (functions (g .inputs)) (functionsOf g) functions-perfect (getD (outputs g side) k 0)
 
   -- Vertex 0 has the constant false.
   pub function-false : getD (functionsOf g) 0 (constantly (g .inputs) false) ≡ constantly (g .inputs) false

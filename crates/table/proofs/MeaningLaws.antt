@@ -37,10 +37,6 @@ module _ {A : Type 0} (invert : A → A) (both : A → A → A) (falsum : A) whe
       value-kept (vs ++ (rowValue invert both falsum vs r ∷ [])) rs v d (omega (arith, length-append vs (rowValue invert both falsum vs r ∷ [])))
       ∙ List·getD-append vs (rowValue invert both falsum vs r ∷ []) d v h
 
-  pub literal-kept : (vs : List A) (rs : List Pair) (r : ℕ) → vertexOf r < length vs
-      → literalValue invert both falsum (vertexValues invert both falsum vs rs) r ≡ literalValue invert both falsum vs r
-  literal-kept vs rs r h = rw (value-kept vs rs (vertexOf r) falsum h)
-
   -- Appended rows do not change the values of the vertices that were there.
   pub value-appended : (vs : List A) (rs qs : List Pair) (v : ℕ) (d : A) → v < length vs + length rs
       → getD (vertexValues invert both falsum vs (rs ++ qs)) v d ≡ getD (vertexValues invert both falsum vs rs) v d

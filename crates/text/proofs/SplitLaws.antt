@@ -29,24 +29,6 @@ upTo-shorter k (b ∷ bs) h = go (eqb b k) (upTo-shorter k bs) h
     go true f e = omega arith
     go false f e = omega (arith, f e)
 
--- The bytes up to a separator are no more than all.
-pub upTo-length : (k : ℕ) (s : List ℕ) → length (upTo k s) ≤ length s
-upTo-length k [] = omega arith
-upTo-length k (b ∷ bs) = go (eqb b k) (upTo-length k bs)
-  where
-    go : (t : Bool) → length (upTo k bs) ≤ length bs → length (cond t [] (b ∷ upTo k bs)) ≤ suc (length bs)
-    go true h = omega arith
-    go false h = omega arith
-
--- The bytes up to a separator have none.
-pub has-upTo : (k : ℕ) (s : List ℕ) → has k (upTo k s) ≡ false
-has-upTo k [] = refl
-has-upTo k (b ∷ bs) = go (eqb b k) refl (has-upTo k bs)
-  where
-    go : (t : Bool) → eqb b k ≡ t → has k (upTo k bs) ≡ false → has k (cond t [] (b ∷ upTo k bs)) ≡ false
-    go true e h = refl
-    go false e h = rw (e, h) refl
-
 -- Bytes of which those up to the separator are fewer have it.
 pub has-shorter : (k : ℕ) (s : List ℕ) → length (upTo k s) < length s → has k s ≡ true
 has-shorter k s h = go (has k s) refl
@@ -93,12 +75,6 @@ splitAt-next k s at h =
     let l : n < length (drop at s) = rw length-drop (omega arith) in
     splitAt-more k (drop at s) (has-shorter k (drop at s) l) ∙ rw (drop-drop, e) refl
 
--- A part that reaches the end is the last.
-pub splitAt-end : (k : ℕ) (s : List ℕ) (at : ℕ) → length s ≤ at + length (upTo k (drop at s)) → splitAt k (drop at s) ≡ upTo k (drop at s) ∷ []
-splitAt-end k s at h =
-    let l : has k (drop at s) ≡ false = has-whole k (drop at s) (rw length-drop (omega arith)) in
-    rw (upTo-all k (drop at s) l) (splitAt-last k (drop at s) l)
-
 -- The first part is what stands up to the first separator.
 pub splitAt-first : (k : ℕ) (s : List ℕ) → getD (splitAt k s) 0 [] ≡ upTo k s
 splitAt-first k s = go (has k s) refl
@@ -114,16 +90,6 @@ splitAt-some k s = go (has k s) refl
     go : (t : Bool) → has k s ≡ t → 0 < length (splitAt k s)
     go true e = rw (splitAt-more k s e) (omega arith)
     go false e = rw (splitAt-last k s e) (omega arith)
-
--- No part has the separator.
-pub splitAt-lacks : (k : ℕ) (s : List ℕ) → anyHas k (splitAt k s) ≡ false
-splitAt-lacks k [] = refl
-splitAt-lacks k (b ∷ bs) = go (eqb b k) refl (splitAt k bs) (splitAt-lacks k bs)
-  where
-    go : (t : Bool) → eqb b k ≡ t → (ps : List (List ℕ)) → anyHas k ps ≡ false → anyHas k (cond t ([] ∷ ps) (onFirst b ps)) ≡ false
-    go true e ps h = h
-    go false e [] h = rw e refl
-    go false e (p ∷ ps) h = rw e h
 
 -- A byte in front of the first part is in front of the parts joined.
 join-onFirst : (k b : ℕ) (ps : List (List ℕ)) → 0 < length ps → join k (onFirst b ps) ≡ b ∷ join k ps

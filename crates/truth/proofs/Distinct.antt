@@ -130,11 +130,6 @@ module _ {A : Type 0} (same : A → A → Bool) (S : Sameness same) where
       let n : among same x xs ≡ false = not-true (among same x xs) (λ e. clash (and-left (not (among same x xs)) (apart same xs) h) (ap not e)) in
       rw n (ap (_∷_ x) (apart-distinct xs (and-right (not (among same x xs)) (apart same xs) h)))
 
-  -- Two lists without repeats that have the same members have the same length.
-  pub apart-length : (xs ys : List A) → apart same xs ≡ true → apart same ys ≡ true
-      → ((z : A) → among same z xs ≡ among same z ys) → length xs ≡ length ys
-  apart-length xs ys a b h = sym (ap length (apart-distinct xs a)) ∙ distinct-same xs ys h ∙ ap length (apart-distinct ys b)
-
   -- Counting the distinct members of two lists together counts a shared one once.
   pub distinct-append : (xs ys : List A) → length (distinct same (xs ++ ys)) + length (filter (λ x. among same x ys) (distinct same xs))
       ≡ length (distinct same xs) + length (distinct same ys)

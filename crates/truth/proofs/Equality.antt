@@ -40,9 +40,6 @@ pub same-iff : {f g f′ g′ : Truth} → (f ≡ g → f′ ≡ g′) → (f′
 same-iff {f} {g} {f′} {g′} h k =
     iff-equal (same? f g) (same? f′ g′) (λ e. equal-same (h (same-equal f g e))) (λ e. equal-same (k (same-equal f′ g′ e)))
 
-pub same-symmetric : (f g : Truth) → same? f g ≡ same? g f
-same-symmetric f g = same-iff sym sym
-
 -- Inverting twice changes nothing.
 pub invert-twice : (f : Truth) → invert (invert f) ≡ f
 unfolding invert

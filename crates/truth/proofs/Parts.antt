@@ -114,19 +114,6 @@ part-cases t f g h =
     (λ e. ⊎-elim low high (or-cases (among alike? t (parts f)) (among alike? t (parts g)) e))
     (or-cases (not (same? f g) && alike? t (node f g)) (among alike? t (parts f) || among alike? t (parts g)) (sym (part-node t f g) ∙ h))
 
--- A part of a part is a part.
-pub part-part : (t u f : Truth) → among alike? u (parts f) ≡ true → among alike? t (parts u) ≡ true → among alike? t (parts f) ≡ true
-unfolding among
-part-part t u (leaf b) h k = clash h (ap (among alike? u) (parts-leaf b))
-part-part t u (node f g) h k = go (part-cases u f g h) (part-part t u f) (part-part t u g)
-  where
-    go : PartOf u f g → (among alike? u (parts f) ≡ true → among alike? t (parts u) ≡ true → among alike? t (parts f) ≡ true)
-        → (among alike? u (parts g) ≡ true → among alike? t (parts u) ≡ true → among alike? t (parts g) ≡ true)
-        → among alike? t (parts (node f g)) ≡ true
-    go (itself d e) p q = sym (parts-alike t u (node f g) e) ∙ k
-    go (low e) p q = part-low t f g (p e k)
-    go (high e) p q = part-high t f g (q e k)
-
 -- Functions of different depths are never alike, so parts at different inputs are never the same.
 pub perfect-depth : {m n : ℕ} {f : Truth} → Perfect m f → Perfect n f → m ≡ n
 perfect-depth whole whole = refl
