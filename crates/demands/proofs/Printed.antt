@@ -79,10 +79,10 @@ module _ {d e : Netlist} (h : Loadable d e) (old : List ℕ) where
           let front : settingBytes (x .setting) ≡ take (inputsOf (g .table)) (compared g .setting) =
           sym (rw (x .written) (take-at (settingBytes (x .setting)) _ (inputsOf (g .table)) digits)) in
           subst (λ (bytes : List ℕ). TrueLine d e (g .output) (replyLine edition (g .output) word.Different bytes None rows steps)) front (says-different rows steps x)
-      go (Said.size rows steps) k = says-undecided rows steps Size
-      go (Said.rows v rows steps) k = says-undecided rows steps (Rows v)
-      go (Said.steps v rows steps) k = says-undecided rows steps (Steps v)
-      go (Said.idle rows steps) k = says-undecided rows steps Idle
+      go (Said.size rows steps) k = says-undecided Size rows steps
+      go (Said.rows v rows steps) k = says-undecided (Rows v) rows steps
+      go (Said.steps v rows steps) k = says-undecided (Steps v) rows steps
+      go (Said.idle rows steps) k = says-undecided Idle rows steps
 
   -- So is that of each of the program's.
   lines-true : (n : ℕ) (g : Given) → Roomy g → g .output + n ≤ outputsOf (g .table) → Since (tableOf d e old) (g .table)

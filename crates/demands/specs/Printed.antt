@@ -2,6 +2,7 @@
 -- the files. (RULES 11.2, 11.3)
 use Prim.Native.Nat.{suc, ℕ}
 use Rattle.compare_model.specs.Compare.{settingBytes}
+use Rattle.compare_model.specs.Said.{undecidedBy}
 use Rattle.demands.specs.Claims.{Agree, Separated}
 use Rattle.demands.specs.Demand3.{Call, Each, Holds, Ran}
 use Rattle.load_model.specs.Load.{accepted, loadResult, refused, tableOf}
@@ -9,7 +10,6 @@ use Rattle.load_model.specs.declared.Tally.{Tally}
 use Rattle.netlist.specs.Check.{read, readNetlist}
 use Rattle.netlist.specs.Limits.{edition}
 use Rattle.netlist.specs.Netlist.{Netlist}
-use Rattle.reply_line.specs.code.Cause.{causeVertex, causeWord}
 use Rattle.reply_line.specs.Line.{lineFor}
 use Rattle.report.specs.Report.{headLine, refusedLine, replyLine}
 use Rattle.report.specs.declared.fields.Vertex.the-variants.{None}
@@ -41,7 +41,7 @@ pub data TrueLine (d e : Netlist) (k : ℕ) : List ℕ → Type 0 where
   says-equal : (rows steps : ℕ) → Agree d e k → TrueLine d e k (replyLine edition k Equal [] None rows steps)
   says-different : (rows steps : ℕ) {before after : List ℕ} (s : Separated d e k before after)
       → TrueLine d e k (replyLine edition k Different (settingBytes (s .setting)) None rows steps)
-  says-undecided : (rows steps : ℕ) (c : Cause) → TrueLine d e k (replyLine edition k (causeWord c) [] (causeVertex c) rows steps)
+  says-undecided : (c : Cause) (rows steps : ℕ) → TrueLine d e k (lineFor k (undecidedBy c rows steps) [])
 
 -- The bytes printed, and the comparisons of which they are the lines.
 pub record Printed (d e : Netlist) (loaded : List ℕ) (report : Report) : Type 0 where
