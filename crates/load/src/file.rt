@@ -8,10 +8,10 @@ ghost use Prim.Native.Nat.{_*_, _+_, _<_, _≤_};
 ghost use Rattle.aig.specs.Literal.{lit, vertexOf};
 ghost use Rattle.load_model.specs.Build.{askGates, buildFile, literalFor, literalsFrom};
 ghost use Rattle.load_model.specs.Load.{maxVertices};
-ghost use Rattle.load_graph.specs.code.Slices.{Graph, buildOf, tracedOf};
-ghost use Rattle.load.specs.code.File.{GateLine, GatesAhead, GatesPassed, OutputLine, OutputsAhead, netlistOf};
+ghost use Rattle.load_graph.specs.code.Slices.{Graph, buildOf};
+ghost use Rattle.load.specs.code.File.{GateLine, GatesAhead, GatesPassed, OutputLine, OutputsAhead, lineGates, netlistOf, trace};
 ghost use Rattle.netlist.specs.code.Accepted.{HoldsNetlist};
-ghost use Rattle.netlist.specs.Check.{gatesIn, outputsIn};
+ghost use Rattle.netlist.specs.Check.{outputsIn};
 ghost use Rattle.netlist.specs.Records.{fileRecords, recordOf};
 ghost use Rattle.table.specs.Limits.{maxAnds, maxInputs, maxOutputs};
 ghost use Rattle.text.specs.Decimal.{written};
@@ -81,7 +81,7 @@ fn ask_gates(
     requires lines { ⌜ GatesAhead (now file) start count first (counts .asked) ⌝ }
     requires graph { ⌜ Graph (now pairs) (now look) counts ⌝ }
     requires room { ⌜ first + count ≤ length (now literals) ⌝ }
-    ensures result { λ r. ⌜ GatesPassed (now (file .entry)) start (tracedOf (now (literals .entry)) first (now (pairs .entry)) counts) (tracedOf (now (literals .exit)) (first + count) (now (pairs .exit)) (r .counts)) (r .at) ⌝ }
+    ensures result { λ r. ⌜ GatesPassed (now (file .entry)) start (trace (literals .entry) first (pairs .entry) counts) (trace (literals .exit) (first + count) (pairs .exit) (r .counts)) (r .at) ⌝ }
     ensures graph { λ r. ⌜ Graph (now (pairs .exit)) (now (look .exit)) (r .counts) ⌝ }
 {
     let mut at = start;
@@ -154,7 +154,7 @@ fn ask_line(
     requires line { ⌜ GateLine (now file) at vertex (counts .asked) ⌝ }
     requires graph { ⌜ Graph (now pairs) (now look) counts ⌝ }
     requires room { ⌜ vertex < length (now literals) ⌝ }
-    ensures result { λ r. ⌜ tracedOf (now (literals .exit)) (vertex + 1) (now (pairs .exit)) r ≡ askGates (tracedOf (now (literals .entry)) vertex (now (pairs .entry)) counts) (gatesIn (recordOf (upTo 10 (drop at (now (file .entry)))) ∷ [])) ⌝ }
+    ensures result { λ r. ⌜ trace (literals .exit) (vertex + 1) (pairs .exit) r ≡ askGates (trace (literals .entry) vertex (pairs .entry) counts) (lineGates (now (file .entry)) at) ⌝ }
     ensures graph { λ r. ⌜ Graph (now (pairs .exit)) (now (look .exit)) r ⌝ }
 {
     let found = lines::read_line(file, at);

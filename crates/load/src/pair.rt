@@ -8,9 +8,7 @@ ghost use Prim.Native.Nat.{_≤_};
 ghost use Rattle.load_model.specs.Load.{maxTable, tableOf, tallyOf};
 ghost use Rattle.load_graph.specs.code.Slices.{buildOf};
 ghost use Rattle.load.specs.code.File.{netlistOf};
-ghost use Rattle.load.specs.code.Pair.{Agreed, Enough, pairOf};
-ghost use Rattle.table.specs.Limits.{maxOutputs};
-ghost use Rattle.text.specs.Decimal.{written};
+ghost use Rattle.load.specs.code.Pair.{Agreed, Enough, outputsOver, pairOf};
 ghost use lib.ListN.{length};
 ghost use mathlib.Core.Path.{_≡_};
 
@@ -65,7 +63,7 @@ fn build_pair(
     requires files { ⌜ Agreed (now left) (now right) one two ⌝ }
     requires room { ⌜ Enough (length (now pairs)) (length (now look)) (length (now literals)) (length (now outputs)) ⌝ }
     ensures result { λ r. ⌜ buildOf (now (pairs .exit)) r ≡ pairOf (now (left .entry)) (now (right .entry)) one two .build ⌝ }
-    ensures outputs { λ _. ⌜ now (outputs .exit) ≡ written (written (now (outputs .entry)) 0 (pairOf (now (left .entry)) (now (right .entry)) one two .left)) maxOutputs (pairOf (now (left .entry)) (now (right .entry)) one two .right) ⌝ }
+    ensures outputs { λ _. ⌜ now (outputs .exit) ≡ outputsOver (now (outputs .entry)) (pairOf (now (left .entry)) (now (right .entry)) one two) ⌝ }
 {
     let counts = load_graph::start(pairs, look, one.inputs);
     let counts = file::load_file(left, one, pairs, look, literals, outputs, 0, counts);

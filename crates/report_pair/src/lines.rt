@@ -9,8 +9,8 @@ ghost use Rattle.compare_model.specs.Said.{saidOf};
 ghost use Rattle.comparer.specs.Lent.{slices};
 ghost use Rattle.reply_line.specs.Line.{lineFor};
 ghost use Rattle.report.specs.Report.{LINE-ROOM, StoredWithin};
-ghost use Rattle.report_model.specs.Report.{comparisonLine, next, replyRoom, reportRoom};
-ghost use Rattle.report_pair.specs.code.Slices.{LeftAfter, Ready, asked, firstLines, tableLines};
+ghost use Rattle.report_model.specs.Report.{comparisonLine, replyRoom, reportRoom};
+ghost use Rattle.report_pair.specs.code.Slices.{LeftAfter, LeftToNext, Ready, asked, firstLines, tableLines};
 ghost use Rattle.table.specs.Table.{outputsOf};
 ghost use lib.ListN.{length};
 ghost use mathlib.Core.Path.{_≡_};
@@ -108,7 +108,7 @@ fn report_output(
     requires { ⌜ Ready (now table) (length (now setting)) ⌝ }
     requires { ⌜ at + replyRoom ≤ length (now out) ⌝ }
     ensures { λ r. ⌜ StoredWithin (now (out .entry)) at replyRoom (comparisonLine (asked output (slices table pairs look diagrams stages rows marks setting .entry))) (now (out .exit)) r ⌝ }
-    ensures { λ _. ⌜ asked (output + 1) (slices table pairs look diagrams stages rows marks setting .exit) ≡ next (asked output (slices table pairs look diagrams stages rows marks setting .entry)) ⌝ }
+    ensures { λ _. ⌜ LeftToNext output (slices table pairs look diagrams stages rows marks setting) ⌝ }
 {
     let limits = Limits {
         size: SIZE_LIMIT,

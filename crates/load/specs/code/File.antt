@@ -1,6 +1,8 @@
 -- A file's lines as they are passed: the gate or the output of the line that is due.
 use Prim.Native.Nat.{_*_, _+_, _<_, _≤_, ℕ}
 use Rattle.aig.specs.Literal.{vertexOf}
+use Rattle.load_graph.specs.code.Slices.{tracedOf}
+use Rattle.load_graph.specs.declared.Counts.{Counts}
 use Rattle.load_model.specs.Build.{Traced, askGates}
 use Rattle.netlist.specs.Check.{andsOf, gatesIn, netlistIn, outputsIn}
 use Rattle.netlist.specs.Meaning.{andCount}
@@ -10,13 +12,22 @@ use Rattle.netlist.specs.declared.check.Summary.{Summary}
 use Rattle.netlist.specs.declared.records.Record.the-variants.{Output}
 use Rattle.table.specs.Limits.{maxAnds}
 use Rattle.text.specs.Split.{upTo}
+use denote.Ref.{RefT, now}
 use lib.ListN.{drop, length}
-use mathlib.Core.List.{List, _++_, map}
+use mathlib.Core.List.{List, [], _++_, _∷_, map}
 use mathlib.Core.Path.{_≡_}
 
 -- The netlist that an accepted file holds.
 unfoldable pub netlistOf : List ℕ → Summary → Netlist
 netlistOf file s = netlistIn (s .inputs) (fileRecords file)
+
+-- The literals of a file's first n vertices, and the graph, in their slices.
+abbrev pub trace : RefT (List ℕ) → ℕ → RefT (List ℕ) → Counts → Traced
+trace literals n pairs counts = tracedOf (now literals) n (now pairs) counts
+
+-- The gates of the line that starts at a place: one, or none.
+abbrev pub lineGates : List ℕ → ℕ → List Gate
+lineGates file at = gatesIn (recordOf (upTo 10 (drop at file)) ∷ [])
 
 -- The line that starts at a place is a gate's, the gate is the file's vertex v, and there is room for its ANDs.
 pub record GateLine (file : List ℕ) (at v asked : ℕ) : Type 0 where

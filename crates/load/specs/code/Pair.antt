@@ -6,6 +6,7 @@ use Rattle.load.specs.code.File.{netlistOf}
 use Rattle.netlist.specs.code.Accepted.{HoldsNetlist}
 use Rattle.netlist.specs.declared.check.Summary.{Summary}
 use Rattle.table.specs.Limits.{maxAnds, maxOutputs}
+use Rattle.text.specs.Decimal.{written}
 use lib.ListN.{drop, take}
 use mathlib.Core.List.{List, _++_, _∷_}
 use mathlib.Core.Path.{_≡_}
@@ -43,3 +44,7 @@ pub record Enough (pairs look literals outputs : ℕ) : Type 0 where
 -- The graph of both files.
 abbrev pub pairOf : List ℕ → List ℕ → Summary → Summary → PairBuilt
 pairOf one two s t = buildPair (netlistOf one s) (netlistOf two t)
+
+-- The literals of both files' outputs in their slice, those of the second after the most that the first can have.
+abbrev pub outputsOver : List ℕ → PairBuilt → List ℕ
+outputsOver old b = written (written old 0 (b .left)) maxOutputs (b .right)
