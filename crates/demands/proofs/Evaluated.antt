@@ -1,5 +1,5 @@
 -- The setting that a Different wrote, given to evaluate on the table as left, has different values on the two sides.
-use Prim.Native.Nat.{_*_, _<_, _≤_, suc, zero, ℕ}
+use Prim.Native.Nat.{_<_, _≤_, suc, zero, ℕ}
 use Rattle.compare_model.proofs.Demand2.{demand2}
 use Rattle.compare_model.proofs.RefusalLaws.{compared-refused, passed}
 use Rattle.compare_model.proofs.Since.{Since, since-compared, since-loaded}
@@ -10,37 +10,17 @@ use Rattle.demands.specs.Evaluated.{Confirmed, written}
 use Rattle.evaluate.proofs.EvaluableLaws.{evaluates}
 use Rattle.evaluate.specs.Evaluate.{bit, digitsOf, evaluatedValue, evaluation, valued}
 use Rattle.product_model.proofs.Cases.{impossible}
-use Rattle.table.proofs.AcceptedLaws.{row-words-below}
-use Rattle.table.proofs.LayoutLaws.{length-output-words, output-word-at}
-use Rattle.table.specs.Accepted.{Accepted}
-use Rattle.table.specs.Fits.{Fits}
+use Rattle.table.proofs.FitsLaws.{accepted-fits}
 use Rattle.table.specs.Table.{graphOf, inputsOf, outputValue, verticesOf}
 use Rattle.truth.specs.Truth.{Setting}
 use lib.ListN.{drop, getD, length, length-map, take}
 use lib.Seq.{take-at}
 use mathlib.Core.Bool.{Bool, false, true}
-use mathlib.Core.List.{List, [], _∷_}
+use mathlib.Core.List.{[], _∷_}
 use mathlib.Core.Logic.{_≢_, _⊎_, inl, inr}
-use mathlib.Core.Path.{_∙_, _≡_, ap, refl, subst, sym}
+use mathlib.Core.Path.{_∙_, _≡_, ap, refl, sym}
 use native.Mathlib.Decide.{ℕ-discrete}
 use native.Mathlib.Omega.{arith}
-
--- A table that tests 10 and 11 leave keeps the rules word by word.
-accepted-fits : {ws : List ℕ} → Accepted ws → Fits ws
-accepted-fits {ws} h =
-    record {
-      header = h .formed .header;
-      inputs = h .formed .inputs;
-      made = h .formed .made;
-      some-output = h .formed .some-output;
-      outputs = h .formed .outputs;
-      whole = h .formed .whole;
-      firsts = λ i l. row-words-below h i l .first;
-      seconds = λ i l. row-words-below h i l .second;
-      references = λ k l.
-          subst (λ (r : ℕ). r < 2 * verticesOf ws) (output-word-at ws k l)
-          (h .references k (omega (arith, length-output-words ws (h .formed .whole))));
-    }
 
 -- The bytes of a setting are 48 and 49, and stand for it.
 bytes-either : (t : Setting) (i : ℕ) → i < length (settingBytes t) → (getD (settingBytes t) i 0 ≡ 48) ⊎ (getD (settingBytes t) i 0 ≡ 49)
