@@ -24,6 +24,11 @@ pub record OwnerSet (s t : List ℕ) (limit n i x : ℕ) : Type 0 where
   pub denotes : (m r : ℕ) → r / 2 ≤ n → denote t m r ≡ denote s m r
   pub functions : storeOf t n ≡ storeOf s n
 
+-- Naming an owner keeps the number of words.
+pub length-owner : (rows : List ℕ) (i x : ℕ) → length (withOwner rows i x) ≡ length rows
+unfolding withOwner
+length-owner rows i x = length-put rows 1 i (highAt rows i * RADIX + x)
+
 module _ (s : List ℕ) (limit n i x : ℕ) (S : Store s limit n) (pos : 1 ≤ i) (le : i ≤ n) (small : x < RADIX) where
   abbrev w : ℕ
   w = highAt s i * RADIX + x
@@ -45,10 +50,6 @@ module _ (s : List ℕ) (limit n i x : ℕ) (S : Store s limit n) (pos : 1 ≤ i
   own-word : wordAt t 1 i ≡ w
   unfolding withOwner
   own-word = put-same s 1 i w (omega arith) pos fits
-
-  length-owner : length t ≡ length s
-  unfolding withOwner
-  length-owner = length-put s 1 i w
 
   same-child : (b : Bool) (j : ℕ) → child t b j ≡ child s b j
   same-child false j = low-sees s t j j (other-word 0 j (omega arith) (omega arith))
@@ -89,7 +90,7 @@ module _ (s : List ℕ) (limit n i x : ℕ) (S : Store s limit n) (pos : 1 ≤ i
           canonical = canonical-agree s t n (same-agree n) (S .canonical);
           chains = same-chains;
           unmarked = λ j h. mark-sees s t j j (other-word 0 j (omega arith) (omega arith)) ∙ S .unmarked j h;
-          room = record { used = S .room .used; small = S .room .small; long = rw length-owner (S .room .long) };
+          room = record { used = S .room .used; small = S .room .small; long = rw (length-owner s i x) (S .room .long) };
         };
         own = owner-packed t i (highAt s i) x small own-word;
         others = λ j d. owner-sees s t j j (other-row 1 j (omega arith) d);

@@ -8,7 +8,7 @@ use Rattle.sweep_model.specs.State.{Limits}
 use Rattle.sweep_model.specs.Sweep.{Verdict, different, equal, undecided}
 use Rattle.sweep_model.specs.declared.Cause.the-variants.{Idle, Rows, Size, Steps}
 use Rattle.table.proofs.AcceptedLaws.{accepts}
-use Rattle.table.proofs.FitsLaws.{fits-accepted, passed-fits}
+use Rattle.table.proofs.FitsLaws.{accepted-fits, fits-accepted}
 use Rattle.table.proofs.RefusalLaws.{table-passed}
 use Rattle.table.specs.Refusals.{firstRefusal}
 use Rattle.table.specs.Table.{inputsOf, outputsOf}
@@ -82,7 +82,7 @@ module _ (g : Given) where
   compare-only e =
       let h = passed g e in
       record {
-        table = passed-fits (g .table) (accepts (g .table) (h .table));
+        table = accepted-fits (h .table);
         output = h .output;
         some-size = h .limits .size .some;
         size = omega (arith, h .limits .size .bounded);

@@ -4,7 +4,7 @@ use Rattle.compare_model.specs.Compare.{CompareRoom, Given, answerTo, an
 use Rattle.compare_model.specs.Passed.{Enough, LimitsWithin, Passed, Within}
 use Rattle.sweep_model.specs.State.{Limits}
 use Rattle.table.proofs.AcceptedLaws.{accepted}
-use Rattle.table.proofs.RefusalLaws.{first-passed, neither, none-applies, table-passed}
+use Rattle.table.proofs.RefusalLaws.{first-passed, none-applies, table-passed}
 use Rattle.table.specs.Refusals.{Test}
 use Rattle.table.specs.Table.{inputsOf, outputsOf, tableTests, verticesOf}
 use borrow.Author.Tests.{eq-eqb, leb-false, leb-true, ltb-false, ne-eqb, not-false}
@@ -15,6 +15,7 @@ use mathlib.Core.List.{List, [], _∷_}
 use mathlib.Core.Logic.{_≢_}
 use mathlib.Core.Path.{_∙_, _≡_, sym}
 use native.Mathlib.Omega.{arith}
+use Rattle.truth.proofs.Booleans.{neither}
 
 limit-within : (most n : ℕ) → outside? most n ≡ false → Within most n
 unfolding outside?

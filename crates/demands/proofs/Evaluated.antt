@@ -10,8 +10,7 @@ use Rattle.demands.specs.Evaluated.{Confirmed, written}
 use Rattle.evaluate.proofs.EvaluableLaws.{evaluates}
 use Rattle.evaluate.specs.Evaluate.{bit, digitsOf, evaluatedValue, evaluation, valued}
 use Rattle.product_model.proofs.Cases.{impossible}
-use Rattle.table.proofs.AcceptedLaws.{accepts}
-use Rattle.table.proofs.FitsLaws.{passed-fits}
+use Rattle.table.proofs.FitsLaws.{accepted-fits}
 use Rattle.table.specs.Table.{graphOf, inputsOf, outputValue, verticesOf}
 use Rattle.truth.specs.Truth.{Setting}
 use lib.ListN.{drop, getD, length, length-map, take}
@@ -69,7 +68,7 @@ module _ (g : Given) (h : refusalOf g ≡ 0) (room : ℕ) (enough : verticesOf (
       rw setting-written
       (evaluates {setting = settingBytes (d .setting)}
       (record {
-        table = passed-fits (compared g .table) (accepts (compared g .table) (kept .accepted));
+        table = accepted-fits (kept .accepted);
         side-known = known;
         output-known = omega (arith, passed g h .output, kept .outputs);
         room-enough = omega (arith, enough, kept .inputs, kept .made);

@@ -8,7 +8,7 @@ use Rattle.evaluate.specs.code.Values.{Bits, numberLiteral, numberValues
 use Rattle.table.proofs.AcceptedLaws.{accepted, side-output-below}
 use Rattle.table.proofs.LayoutLaws.{graph-outputs}
 use Rattle.table.proofs.MeaningLaws.{literal-mapped, values-mapped}
-use Rattle.table.proofs.RefusalLaws.{first-passed, neither, none-applies, table-passed}
+use Rattle.table.proofs.RefusalLaws.{first-passed, none-applies, table-passed}
 use Rattle.table.specs.Refusals.{firstRefusal}
 use Rattle.table.specs.Table.{graphOf, inputsOf, outputValue, outputsOf, rowsOf, sideOutputs, tableTests, valuesOn, verticesOf}
 use borrow.Author.Tests.{eqb-true, leb-false, ltb-false, ne-eqb, not-false}
@@ -18,6 +18,7 @@ use mathlib.Core.Bool.{_&&_, false, not}
 use mathlib.Core.List.{List, _∷_, map}
 use mathlib.Core.Path.{_∙_, _≡_, ap, refl, subst, sym}
 use native.Mathlib.Omega.{arith}
+use Rattle.truth.proofs.Booleans.{neither}
 
 -- Where no refusal applies, the arguments are ready.
 pub ready : (words : List ℕ) (side output : ℕ) (setting : List ℕ) (room : ℕ)

@@ -17,7 +17,6 @@ use Rattle.netlist.specs.code.Passing.{StartsAt}
 use Rattle.netlist.specs.declared.check.Checked.the-variants as checked
 use Rattle.netlist.specs.declared.check.Checked.{Checked}
 use Rattle.netlist.specs.declared.check.Summary.{Summary}
-use Rattle.table.proofs.RefusalLaws.{neither}
 use Rattle.table.specs.Limits.{maxAnds}
 use Rattle.table.specs.Refusals.{firstRefusal}
 use Rattle.text.specs.Split.{upTo}
@@ -27,6 +26,7 @@ use lib.ListN.{length}
 use mathlib.Core.Bool.{_||_, false, not}
 use mathlib.Core.List.{List}
 use mathlib.Core.Path.{_∙_, _≡_, ap, ap₂, refl, subst, sym}
+use Rattle.truth.proofs.Booleans.{neither}
 
 same : (m n : ℕ) → not (eqb m n) ≡ false → m ≡ n
 same m n h = eqb-true m n (not-false (eqb m n) h)

@@ -1,8 +1,10 @@
 -- One file loaded: its gates and then its outputs, as the file holds them.
-use Prim.Native.Nat.{_*_, _+_, _<_, _≤_, suc, zero, ℕ}
+use Prim.Native.Nat.{_*_, _+_, _<_, _≤_, ℕ}
+use Rattle.load_model.proofs.PairMeaningLaws.{literals-length}
 use Rattle.load_model.specs.Build.{Build, Traced, askGates, buildFile, literalFor, literalsFrom}
-use Rattle.load.proofs.Passing.{gates-in, literal-front, outputs-in}
+use Rattle.load.proofs.Passing.{literal-front}
 use Rattle.load.specs.code.File.{GatesAhead, GatesPassed, OutputsAhead}
+use Rattle.netlist.proofs.ReadLaws.{gates-in, outputs-in}
 use Rattle.netlist.specs.code.Accepted.{HoldsNetlist}
 use Rattle.netlist.specs.Check.{gatesIn, outputsIn}
 use Rattle.netlist.specs.Netlist as netlist
@@ -25,11 +27,6 @@ below-more {m = m} h (netlist.AllBelow.next {r = r} l b) = let k : r < m = omega
 map-front : (literals : List ℕ) (n : ℕ) {rs : List ℕ} → AllBelow (2 * n) rs → map (literalFor literals) rs ≡ map (literalFor (take n literals)) rs
 map-front literals n netlist.AllBelow.none = refl
 map-front literals n (netlist.AllBelow.next {r = r} l b) = ap₂ _∷_ (sym (literal-front literals n r l)) (map-front literals n b)
-
-literals-length : (v n : ℕ) → length (literalsFrom v n) ≡ n
-unfolding literalsFrom
-literals-length v zero = refl
-literals-length v (suc n) = ap suc (literals-length (suc v) n)
 
 -- The literals of the first vertices, written, are those of a file before its gates.
 first-literals : (literals : List ℕ) (n : ℕ) → take n (written literals 0 (literalsFrom 0 n)) ≡ literalsFrom 0 n

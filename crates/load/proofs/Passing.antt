@@ -8,6 +8,7 @@ use Rattle.load_graph.specs.code.Slices.{tracedOf}
 use Rattle.load_graph.specs.declared.Counts.{Counts}
 use Rattle.load.specs.code.File.{GateLine, GatesAhead, GatesPassed, OutputLine, OutputsAhead}
 use Rattle.netlist.proofs.LineLaws.{Line, line-ahead}
+use Rattle.netlist.proofs.ReadLaws.{gates-in, outputs-in}
 use Rattle.netlist.specs.Check.{andsOf, gatesIn, outputsIn}
 use Rattle.netlist.specs.Meaning.{andCount}
 use Rattle.netlist.specs.Netlist as netlist
@@ -73,18 +74,6 @@ pub output-stored :
     → map (literalFor literals) (outputsIn (y ∷ [])) ≡ x .0 ∷ []
 unfolding outputsIn
 output-stored literals r e er = rw (er, e) refl
-
-pub gates-in : (gs : List netlist.Gate) (os : List ℕ) → gatesIn (map gateRecord gs ++ map Output os) ≡ gs
-unfolding gatesIn
-gates-in [] [] = refl
-gates-in [] (r ∷ os) = gates-in [] os
-gates-in (g ∷ gs) os = ap (λ (l : List netlist.Gate). g ∷ l) (gates-in gs os)
-
-pub outputs-in : (gs : List netlist.Gate) (os : List ℕ) → outputsIn (map gateRecord gs ++ map Output os) ≡ os
-unfolding outputsIn
-outputs-in [] [] = refl
-outputs-in [] (r ∷ os) = ap (λ (l : List ℕ). r ∷ l) (outputs-in [] os)
-outputs-in (g ∷ gs) os = outputs-in gs os
 
 gate-formed : (g : netlist.Gate) → gateRecord g ≡ Malformed → ⊥
 gate-formed g e = let z : _≡_ {A = ℕ} 0 1 = cc in omega arith

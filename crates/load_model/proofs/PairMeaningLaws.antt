@@ -15,10 +15,11 @@ use mathlib.Core.Path.{_∙_, _≡_, ap, refl, subst, sym}
 use native.Mathlib.Decide.{decLt}
 use native.Mathlib.Omega.{arith}
 
-length-first : (v n : ℕ) → length (literalsFrom v n) ≡ n
+-- The literals of the vertices from v on.
+pub literals-length : (v n : ℕ) → length (literalsFrom v n) ≡ n
 unfolding literalsFrom
-length-first v zero = refl
-length-first v (suc n) = ap suc (length-first (suc v) n)
+literals-length v zero = refl
+literals-length v (suc n) = ap suc (literals-length (suc v) n)
 
 first-literal : (v n i : ℕ) → i < n → getD (literalsFrom v n) i 0 ≡ 2 * (v + i)
 unfolding literalsFrom
@@ -33,7 +34,7 @@ module _ {A : Type 0} {Sound : A → Type 0} {invert : A → A} {both : A → A 
   start-follows : (b : Build) → Follows invert both falsum vs (fileStart b n) us
   start-follows b =
       record {
-        count = length-first 0 (1 + n) ∙ sym (begins .count);
+        count = literals-length 0 (1 + n) ∙ sym (begins .count);
         each = λ i. elim (decLt i (1 + n)) [ yes h ↦ within i h | no h ↦ beyond i (omega arith) ];
       }
     where
@@ -44,7 +45,7 @@ module _ {A : Type 0} {Sound : A → Type 0} {invert : A → A} {both : A → A 
 
       beyond : (i : ℕ) → 1 + n ≤ i → literalValue invert both falsum vs (getD (literalsFrom 0 (1 + n)) i 0) ≡ getD us i falsum
       beyond i h =
-          let l : length (literalsFrom 0 (1 + n)) ≤ i = omega (arith, length-first 0 (1 + n)) in
+          let l : length (literalsFrom 0 (1 + n)) ≤ i = omega (arith, literals-length 0 (1 + n)) in
           let m : length us ≤ i = omega (arith, begins .count) in
           ap (literalValue invert both falsum vs) (List·getD-eq-default (literalsFrom 0 (1 + n)) 0 l) ∙ val .constant ∙ sym (List·getD-eq-default us falsum m)
 

@@ -9,41 +9,12 @@ use Rattle.netlist.specs.Records.{fieldsRecord, fileRecords, recordOf, r
 use Rattle.netlist.specs.declared.records.Record.the-variants.{Malformed, Output}
 use Rattle.netlist.specs.declared.records.Record.{Record}
 use Rattle.table.specs.Limits.{maxInputs}
-use Rattle.text.proofs.SplitLaws.{join-splitAt, splitAt-join}
-use Rattle.text.specs.Split.{anyHas, has, join, splitAt}
-use Rattle.truth.proofs.Booleans.{clash}
-use borrow.Author.Tests.{ne-eqb}
-use lib.Dec.{eqb}
+use Rattle.text.proofs.SplitLaws.{join-splitAt, lacks-join, splitAt-join}
+use Rattle.text.specs.Split.{join, splitAt}
 use lib.ListN.{length}
-use mathlib.Core.Bool.{Bool, _||_, false, true}
 use mathlib.Core.List.{List, [], _++_, _∷_, append-assoc, map}
 use mathlib.Core.Path.{_∙_, _≡_, ap, ap₂, refl, sym}
 use native.Mathlib.Omega.{arith}
-
--- Bytes that lack a separator, one after the other, lack it.
-lacks-append : (k : ℕ) (s t : List ℕ) → has k s ≡ false → has k t ≡ false → has k (s ++ t) ≡ false
-lacks-append k [] t h g = g
-lacks-append k (b ∷ bs) t h g = go (eqb b k) (λ e. lacks-append k bs t e g) h
-  where
-    go : (x : Bool) → (has k bs ≡ false → has k (bs ++ t) ≡ false) → (x || has k bs) ≡ false → (x || has k (bs ++ t)) ≡ false
-    go true f e = e
-    go false f e = f e
-
--- So do parts joined by another byte.
-lacks-join : (k stop : ℕ) (ps : List (List ℕ)) → (stop ≡ k → ⊥) → anyHas k ps ≡ false → has k (join stop ps) ≡ false
-lacks-join k stop [] n h = refl
-lacks-join k stop (p ∷ []) n h = go (has k p) h
-  where
-    go : (x : Bool) → (x || false) ≡ false → x ≡ false
-    go true e = e
-    go false e = refl
-lacks-join k stop (p ∷ (q ∷ ps)) n h = go (has k p) refl (lacks-join k stop (q ∷ ps) n) h
-  where
-    go :
-        (x : Bool) → has k p ≡ x → (anyHas k (q ∷ ps) ≡ false → has k (join stop (q ∷ ps)) ≡ false) → (x || anyHas k (q ∷ ps)) ≡ false
-        → has k (p ++ stop ∷ join stop (q ∷ ps)) ≡ false
-    go true x f e = clash refl e
-    go false x f e = lacks-append k p (stop ∷ join stop (q ∷ ps)) x (rw (ne-eqb stop k n) (f e))
 
 -- All of some records can be held by lines.
 pub data AllSpelled : List Record → Type 0 where

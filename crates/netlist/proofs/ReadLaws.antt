@@ -17,13 +17,14 @@ use mathlib.Core.List.{List, [], _++_, _∷_, map}
 use mathlib.Core.Path.{_∙_, _≡_, ap, ap₂, refl, subst, subst⁻¹, sym}
 use native.Mathlib.Omega.{arith}
 
-gates-in : (gs : List netlist.Gate) (os : List ℕ) → gatesIn (map gateRecord gs ++ map Output os) ≡ gs
+-- The gates and the outputs among the records of a netlist.
+pub gates-in : (gs : List netlist.Gate) (os : List ℕ) → gatesIn (map gateRecord gs ++ map Output os) ≡ gs
 unfolding gatesIn
 gates-in [] [] = refl
 gates-in [] (r ∷ os) = gates-in [] os
 gates-in (g ∷ gs) os = ap (λ (l : List netlist.Gate). g ∷ l) (gates-in gs os)
 
-outputs-in : (gs : List netlist.Gate) (os : List ℕ) → outputsIn (map gateRecord gs ++ map Output os) ≡ os
+pub outputs-in : (gs : List netlist.Gate) (os : List ℕ) → outputsIn (map gateRecord gs ++ map Output os) ≡ os
 unfolding outputsIn
 outputs-in [] [] = refl
 outputs-in [] (r ∷ os) = ap (λ (l : List ℕ). r ∷ l) (outputs-in [] os)

@@ -1,7 +1,7 @@
 -- The parts of a conjunction, in each of the three ways in which a run goes on.
 use Prim.Native.Nat.{ℕ}
 use Rattle.product_model.proofs.Members.{within-none}
-use Rattle.truth.proofs.Booleans.{clash, or-cases}
+use Rattle.truth.proofs.Booleans.{neither, or-cases}
 use Rattle.truth.proofs.Distinct.{Within, among-append}
 use Rattle.truth.proofs.Equality.{agree-equal, alike-cases, constant-equal, same-equal, same-reflexive}
 use Rattle.truth.proofs.Parts.{parts-constant, parts-node}
@@ -78,10 +78,6 @@ independent : (f g : Truth) → depends? (node f g) ≡ false → f ≡ g
 unfolding depends?
 independent f g e = same-equal f g (not-false (same? f g) e)
 
-or-none : (x y : Bool) → x || y ≡ false → (x ≡ false) × (y ≡ false)
-or-none true y h = clash refl h
-or-none false y h = (refl, h)
-
 -- An input that a function does not depend on adds no part to it.
 pub parts-skip : (t f : Truth) → among alike? t (parts f) ≡ among alike? t (parts (node f f))
 parts-skip t f =
@@ -92,7 +88,7 @@ parts-skip t f =
 pub parts-passed : (f₀ f₁ g₀ g₁ : Truth) → depends? (node f₀ f₁) || depends? (node g₀ g₁) ≡ false
     → (t : Truth) → among alike? t (parts (conj f₀ g₀)) ≡ among alike? t (parts (node (conj f₀ g₀) (conj f₁ g₁)))
 parts-passed f₀ f₁ g₀ g₁ e t =
-    let n = or-none (depends? (node f₀ f₁)) (depends? (node g₀ g₁)) e in
+    let n = neither (depends? (node f₀ f₁)) (depends? (node g₀ g₁)) e in
     parts-skip t (conj f₀ g₀)
     ∙ ap (λ h. among alike? t (parts (node (conj f₀ g₀) h))) (ap₂ conj (independent f₀ f₁ (n .0)) (independent g₀ g₁ (n .1)))
 

@@ -1,4 +1,5 @@
 -- What a reader finds in the lines.
+use native.Mathlib.Omega.{arith}
 use Prim.Native.Nat.{ℕ}
 use Rattle.report.specs.Report.{lineOf, refusedFields, refusedLine, replyFields, replyLine, settingField, vertexField, wordBytes}
 use Rattle.report.specs.declared.fields.Vertex.the-variants.{At, None}
@@ -6,34 +7,15 @@ use Rattle.report.specs.declared.fields.Vertex.{Vertex}
 use Rattle.report.specs.declared.fields.Word.the-variants.{Different, Equal, Idle, Rows, Size, Steps}
 use Rattle.report.specs.declared.fields.Word.{Word}
 use Rattle.text.proofs.NumeralLaws.{decimal-lacks, digits-lack}
-use Rattle.text.proofs.SplitLaws.{splitAt-append, splitAt-first, splitAt-join}
+use Rattle.text.proofs.SplitLaws.{lacks-join, splitAt-append, splitAt-first, splitAt-join}
 use Rattle.text.specs.Decimal.{decimal}
 use Rattle.text.specs.Numerals.{allDigits, isDigit}
 use Rattle.text.specs.Split.{anyHas, has, join, splitAt, upTo}
 use lib.Dec.{eqb}
 use lib.ListN.{getD}
-use mathlib.Core.Bool.{Bool, _||_, false, or-false, true}
+use mathlib.Core.Bool.{false, true}
 use mathlib.Core.List.{List, [], _++_, _∷_, append-assoc}
 use mathlib.Core.Path.{_∙_, _≡_, ap, refl, sym}
-
--- A byte that two strings lack is not in both together.
-has-append : (k : ℕ) (a b : List ℕ) → has k a ≡ false → has k b ≡ false → has k (a ++ b) ≡ false
-has-append k [] b ha hb = hb
-has-append k (x ∷ xs) b ha hb = go (eqb x k) (has-append k xs b) ha
-  where
-    go : (t : Bool) → (has k xs ≡ false → has k b ≡ false → has k (xs ++ b) ≡ false) → (t || has k xs) ≡ false → (t || has k (xs ++ b)) ≡ false
-    go true f h = h
-    go false f h = f h hb
-
--- Fields without an end byte have none where tabs stand between them.
-has-join : (fs : List (List ℕ)) → anyHas 10 fs ≡ false → has 10 (join 9 fs) ≡ false
-has-join [] h = refl
-has-join (p ∷ []) h = sym (or-false (has 10 p)) ∙ h
-has-join (p ∷ (q ∷ fs)) h = go (has 10 p) refl (has-join (q ∷ fs)) h
-  where
-    go : (t : Bool) → has 10 p ≡ t → (anyHas 10 (q ∷ fs) ≡ false → has 10 (join 9 (q ∷ fs)) ≡ false) → (t || anyHas 10 (q ∷ fs)) ≡ false → has 10 (p ++ 9 ∷ join 9 (q ∷ fs)) ≡ false
-    go true e f h = cc
-    go false e f h = has-append 10 p (9 ∷ join 9 (q ∷ fs)) e (f h)
 
 -- A line has one byte 10, its last, and the bytes before it are its fields with tabs between them.
 pub record Reads (line : List ℕ) (fields : List (List ℕ)) : Type 0 where
@@ -44,7 +26,7 @@ pub record Reads (line : List ℕ) (fields : List (List ℕ)) : Type 0 where
 line-reads : (f : List ℕ) (fs : List (List ℕ)) → anyHas 9 (f ∷ fs) ≡ false → anyHas 10 (f ∷ fs) ≡ false → Reads (lineOf (f ∷ fs)) (f ∷ fs)
 line-reads f fs tab end =
     let body = join 9 (f ∷ fs) in
-    let s : splitAt 10 (body ++ 10 ∷ []) ≡ body ∷ [] ∷ [] = splitAt-append 10 body [] (has-join (f ∷ fs) end) in
+    let s : splitAt 10 (body ++ 10 ∷ []) ≡ body ∷ [] ∷ [] = splitAt-append 10 body [] (lacks-join 10 9 (f ∷ fs) (λ e. omega arith) end) in
     let u : upTo 10 (body ++ 10 ∷ []) ≡ body = sym (splitAt-first 10 (body ++ 10 ∷ [])) ∙ ap (λ (l : List (List ℕ)). getD l 0 []) s in
     record { one-end = rw u s; parts = rw u (splitAt-join 9 f fs tab) }
 

@@ -6,7 +6,6 @@ use Rattle.load_model.specs.Load.{Answer, LoadRoom, accepted, loadResult, maxVe
 use Rattle.load_model.specs.declared.Tally.{Tally}
 use Rattle.netlist.specs.Check.{readNetlist}
 use Rattle.report_model.specs.Report.{Lent, firstOf, loadRoom, reportOf, reportRoom, reported, rowLimit, short?, shortRoom?, untouched, works?}
-use Rattle.table.proofs.RefusalLaws.{neither}
 use Rattle.table.specs.Accepted.{Accepted}
 use Rattle.table.specs.Limits.{maxInputs}
 use borrow.Author.Tests.{ltb-false}
@@ -14,6 +13,7 @@ use lib.Dec.{ltb}
 use mathlib.Core.Bool.{_||_, false, true}
 use mathlib.Core.List.{List}
 use mathlib.Core.Path.{_≡_, refl}
+use Rattle.truth.proofs.Booleans.{neither}
 
 -- The slices are long enough.
 pub record Long (o r m s : ℕ) : Type 0 where

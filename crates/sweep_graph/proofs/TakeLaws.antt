@@ -3,10 +3,10 @@ use Prim.Native.Nat.{_*_, _+_, _-_, _/_, _<_, _≤_, suc, ℕ}
 use Rattle.aig.proofs.IndexLaws.{row-holds, row-length}
 use Rattle.aig.specs.Literal.{vertexOf}
 use Rattle.aig.specs.Lookup.{firstWord, secondWord, withRow}
-use Rattle.bdd.proofs.RowsLaws.{length-put}
+use Rattle.bdd.proofs.OwnerLaws.{length-owner}
+use Rattle.bdd.proofs.ReferenceLaws.{edge-row}
 use Rattle.bdd.specs.Diagram.{edge}
 use Rattle.bdd.specs.code.Owners.{withOwner}
-use Rattle.bdd.specs.code.Rows.{RADIX, highAt}
 use Rattle.sweep_graph.specs.code.Graph.{Graph}
 use Rattle.sweep_graph.specs.code.Stages.{stageWord, withStage, wordStage}
 use Rattle.sweep_graph.specs.code.Takes.{Handing, Held, TakesRoom, handedOver, hasWord, held, leave, takeWords, takenDiagrams, takesWords, wakeWords}
@@ -92,16 +92,6 @@ length-wake w stages = go (eqb w 0)
     go : (b : Bool) → length (cond b stages (withStage stages w (stageWord (wake (wordStage (firstWord stages w)))))) ≡ length stages
     go true = refl
     go false = length-set stages (2 * w) (stageWord (wake (wordStage (firstWord stages w))))
-
--- Naming an owner keeps the number of words.
-length-owner : (rows : List ℕ) (i x : ℕ) → length (withOwner rows i x) ≡ length rows
-unfolding withOwner
-length-owner rows i x = length-put rows 1 i (highAt rows i * RADIX + x)
-
--- A given diagram has the same row.
-edge-row : (c r : ℕ) → edge c r / 2 ≡ c / 2
-unfolding edge
-edge-row c r = omega arith
 
 module _ {count : ℕ} where
   -- TakesRoom for other stages of the same number.

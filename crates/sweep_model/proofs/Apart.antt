@@ -22,7 +22,7 @@ use Rattle.sweep_model.specs.code.Steady.{Due, Steady}
 use Rattle.sweep_model.specs.Sweep.{at, meet}
 use Rattle.truth.proofs.Booleans.{not-true, or-cases}
 use Rattle.truth.proofs.Equality.{constant-equal, inverse-alike}
-use Rattle.truth.proofs.Parts.{alike-sameness}
+use Rattle.truth.proofs.Parts.{alike-chain, alike-sameness, alike-turn}
 use Rattle.truth.specs.Parts.{alike?}
 use Rattle.truth.specs.Truth.{Truth, constant?, constantly, invert, node, same?, valueAt}
 use lib.Dec.{leb}
@@ -34,12 +34,6 @@ use mathlib.Core.Logic.{_≢_, ⊎-elim}
 use mathlib.Core.Path.{_∙_, _≡_, ap, ap₂, refl, sym}
 use native.Mathlib.Decide.{decLe, ℕ-discrete}
 use native.Mathlib.Omega.{arith}
-
-alike-chain : (f g h : Truth) → alike? f g ≡ true → alike? g h ≡ true → alike? f h ≡ true
-alike-chain f g h a b = alike-sameness .congruent f g h a ∙ b
-
-alike-turn : (f g : Truth) → alike? f g ≡ true → alike? g f ≡ true
-alike-turn f g e = alike-sameness .symmetric g f ∙ e
 
 constant-invert : (m : ℕ) → constantly m true ≡ invert (constantly m false)
 unfolding constantly invert

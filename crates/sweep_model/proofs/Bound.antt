@@ -24,6 +24,13 @@ open-turns s v w =
       waiting-turns (stageOf (s .stages) v) w,
     )
 
+-- What is known of a state where the sweep goes on.
+pub claim-on : {P : State → Type 0} {W : Verdict → State → Type 0} {o : Progress} {s : State} → Claim P W o → o ≡ on s → P s
+claim-on {P} {W} {o} {s} c e = at-on (rw e at c)
+  where
+    at-on : Claim P W (on s) → P s
+    at-on (goes-on h) = h
+
 -- Nothing is asked of the states.
 pub nothing : (p : Problem) (entry : List ℕ) → Keeps p entry (λ place s. Unit {0}) (λ x s. Unit {0})
 nothing p entry =

@@ -10,7 +10,7 @@ use Rattle.sweep_model.proofs.Inputs.{first-apart, input-row-ran}
 use Rattle.sweep_model.proofs.Marked.{andAt}
 use Rattle.sweep_model.proofs.Merger.{merger-book, merger-marks, merger-steady, merger-taken}
 use Rattle.sweep_model.proofs.Products.{product-ran}
-use Rattle.sweep_model.proofs.Stages.{bare-lacks, bare-not-gone, dropped-lacks, gone-is, has-not-gone, has-wake, stage-within, waits-has}
+use Rattle.sweep_model.proofs.Stages.{bare-not-gone, bare-wake, dropped-lacks, gone-is, has-not-gone, has-wake, stage-within, waits-has}
 use Rattle.sweep_model.proofs.Steady.{alive-unmerged, alive-within, begin-giving, begin-steady, dropped-steady, due-alive, due-within, inputRow, opened-steady, openedAt, swept-steady}
 use Rattle.sweep_model.proofs.Takes.{Fate, left-alone, woken}
 use Rattle.sweep_model.proofs.Tidy.{first-unmerged, still-merged}
@@ -72,14 +72,11 @@ opened-fits p v x m e f =
 wake-fits : (p : Problem) (v : ℕ) (x : Stage) (m : ℕ) → (v < p .first → has? x ≡ true) → StageFits p v x m → StageFits p v (wake x) m
 wake-fits p v x m e f =
     record {
-      bare-unmarked = λ i. clash i (not-bare x);
+      bare-unmarked = λ i. clash i (bare-wake x);
       dropped-two = λ i. clash i (not-dropped x);
       input = λ l h. f .input l h ∙ ap (λ (b : Bool). cond b 1 0) (e h ∙ sym (has-wake x));
     }
   where
-    not-bare : (x : Stage) → bare? (wake x) ≡ false
-    not-bare x = not-true (bare? (wake x)) (λ i. clash (has-wake x) (bare-lacks (wake x) i))
-
     not-dropped : (x : Stage) → dropped? (wake x) ≡ false
     not-dropped x = not-true (dropped? (wake x)) (λ i. clash (has-wake x) (dropped-lacks (wake x) i))
 

@@ -5,11 +5,11 @@ use Rattle.aig.specs.Literal.{vertexOf}
 use Rattle.aig.specs.Lookup.{firstWord, secondWord, withRow}
 use Rattle.bdd.proofs.ChainLaws.{agree-then}
 use Rattle.bdd.proofs.DiagramLaws.{canonical, constant-reference, denote-constant}
+use Rattle.bdd.proofs.OwnerLaws.{length-owner}
 use Rattle.bdd.proofs.ReferenceLaws.{edge-row}
-use Rattle.bdd.proofs.RowsLaws.{length-put}
 use Rattle.bdd.specs.Diagram.{Canonical, edge}
 use Rattle.bdd.specs.code.Owners.{withOwner}
-use Rattle.bdd.specs.code.Rows.{RADIX, highAt, ownerAt}
+use Rattle.bdd.specs.code.Rows.{ownerAt}
 use Rattle.bdd.specs.code.Store.{Agree, Store}
 use Rattle.sweep_graph.proofs.DrawnLaws.{Drawn, takes-drawn}
 use Rattle.sweep_graph.proofs.StageLaws.{stage-word}
@@ -76,11 +76,6 @@ unfolding has?
 gone-has v u stages h e i =
     clash (sym (ap (hasWord (withStage stages v (stageWord gone))) i) ∙ e)
     (ap (λ (s : ℕ). has? (wordStage s)) (getD-set-same stages (2 * v) (stageWord gone) 0 h) ∙ ap has? (stage-word gone))
-
--- An owner that is set keeps the number of words.
-pub owner-long : (rows : List ℕ) (i w : ℕ) → length (withOwner rows i w) ≡ length rows
-unfolding withOwner
-owner-long rows i w = length-put rows 1 i (highAt rows i * RADIX + w)
 
 -- What holds while vertices hand over: rows s are as they were but for owners, which are right, and diagrams are those of their functions.
 module _ (t : Task) (functions : List Truth) (s : List ℕ) (used : ℕ) where
@@ -273,7 +268,7 @@ module _ (t : Task) (functions : List Truth) (s : List ℕ) (used : ℕ) where
                 owners = given-owners mine;
                 store = own mine .store;
                 agree = λ n. agree-then (k .agree n) (own mine .agree n) (omega arith);
-                long = owner-long (h .rows) i w ∙ k .long;
+                long = length-owner (h .rows) i w ∙ k .long;
               }
           go false mine true its =
               record {

@@ -3,6 +3,7 @@ use Prim.Native.Nat.{_*_, _/_, _<_, _≤_, max, min, ℕ}
 use Rattle.aig.specs.Literal.{literalOf}
 use Rattle.aig.specs.Lookup.{firstWord, secondWord}
 use Rattle.bdd.proofs.DiagramLaws.{canonical}
+use Rattle.bdd.proofs.OwnerLaws.{length-owner}
 use Rattle.bdd.specs.Diagram.{denote}
 use Rattle.product.specs.Product.{bookOf}
 use Rattle.product_model.specs.Run.{done}
@@ -16,7 +17,7 @@ use Rattle.sweep_model.specs.State.{Problem, State, functionOf, withBook, withR
 use Rattle.sweep_model.specs.code.Steady.{Due, productOf}
 use Rattle.sweep_model.specs.Sweep.{at, meet, none, swept, twinFrom}
 use Rattle.sweep_parts.proofs.DrawModel.{Draws, all-owners, carried, drawn-represents, drawn-state, other-first, other-second, other-stage, own, own-first, own-second}
-use Rattle.sweep_parts.proofs.HandLaws.{Handed, owner-long}
+use Rattle.sweep_parts.proofs.HandLaws.{Handed}
 use Rattle.sweep_parts.proofs.LookModel.{has-stage}
 use Rattle.sweep_parts.proofs.MeetLaws.{drawn-room, meet-asks, merge-graph}
 use Rattle.sweep_parts.proofs.NormaliseModel.{Normalises, normalised-represents, normalised-state, sound-graph}
@@ -89,7 +90,7 @@ module _
         owners = all-owners rep d;
         store = own rep d .store;
         agree = own rep d .agree;
-        long = owner-long rows (reference / 2) v;
+        long = length-owner rows (reference / 2) v;
       }
 
   module _ (k : ℕ) (ran : productOf p v (stateOf (t .count) w) ≡ done (bookOf rows u k)) (small : ltb (t .size) (size (functionOf p v)) ≡ false) where

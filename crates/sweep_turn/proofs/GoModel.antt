@@ -17,7 +17,7 @@ use Rattle.sweep_parts.specs.code.Words.{posed}
 use Rattle.sweep_parts.specs.declared.end.End.{End}
 use Rattle.sweep_parts.specs.declared.task.Task.{Task}
 use Rattle.sweep_step.specs.code.Multiply.{Context}
-use Rattle.sweep_turn.proofs.ScanModel.{SameLengths}
+use Rattle.sweep_turn.proofs.ScanModel.{SameLengths, lengths-then}
 use Rattle.sweep_turn.specs.code.Turn.{Goes, OpenIn, OpenOn, Opens, RestIn, RestOn, firstContext, gone, openedBy}
 use Rattle.sweep_turn.specs.declared.visit.Going.the-variants.{Ended, On}
 use Rattle.sweep_turn.specs.declared.visit.Going.{Going}
@@ -150,13 +150,7 @@ module _
                   sym (any-bound (r .rests))
                   ∙ ap (λ (p : Progress). andThen p (goFor (posed t (x .functions)) (leftAfter t x v used steps b .turns))) (sym (r .reached))
                   ∙ sym (turn-first (s .here x o) v (sym e ∙ f)) ∙ s .ahead x o;
-              same = record {
-                pairs = same .pairs ∙ s .same .pairs;
-                diagrams = same .diagrams ∙ s .same .diagrams;
-                stages = same .stages ∙ s .same .stages;
-                rows = same .rows ∙ s .same .rows;
-                marks = same .marks ∙ s .same .marks;
-              };
+              same = lengths-then (s .same) same;
               same-places = same-places ∙ s .same-places;
             }
 

@@ -23,13 +23,23 @@ scan-turn :
 unfolding scanFrom
 scan-turn t x v used steps b h = let e : t .count - v ≡ suc (t .count - suc v) = omega arith in rw e refl
 
--- Two boards with as many words.
+-- Two workspaces with as many words.
 pub record SameLengths (b c : Workspace) : Type 0 where
   pub pairs : length (c .pairs) ≡ length (b .pairs)
   pub diagrams : length (c .arrays .diagrams) ≡ length (b .arrays .diagrams)
   pub stages : length (c .arrays .stages) ≡ length (b .arrays .stages)
   pub rows : length (c .arrays .rows) ≡ length (b .arrays .rows)
   pub marks : length (c .arrays .marks) ≡ length (b .arrays .marks)
+
+pub lengths-then : {b c d : Workspace} → SameLengths b c → SameLengths c d → SameLengths b d
+lengths-then s t =
+    record {
+      pairs = t .pairs ∙ s .pairs;
+      diagrams = t .diagrams ∙ s .diagrams;
+      stages = t .stages ∙ s .stages;
+      rows = t .rows ∙ s .rows;
+      marks = t .marks ∙ s .marks;
+    }
 
 pub record Scanned (t : Task) (from used₀ steps₀ : ℕ) (b₀ : Workspace) (places₀ : List ℕ) (v used steps : ℕ) (b : Workspace) (places : List ℕ) : Type 0 where
   pub to : v ≤ t .count
@@ -68,13 +78,7 @@ module _
         ahead = λ x o.
             ap (λ (p : Progress). andThen p (scanFrom (posed t (x .functions)) (suc v) (t .count - suc v))) (sym (went x (s .here x o) .reached))
             ∙ sym (scan-turn t x v used steps b h) ∙ s .ahead x o;
-        same = record {
-          pairs = same .pairs ∙ s .same .pairs;
-          diagrams = same .diagrams ∙ s .same .diagrams;
-          stages = same .stages ∙ s .same .stages;
-          rows = same .rows ∙ s .same .rows;
-          marks = same .marks ∙ s .same .marks;
-        };
+        same = lengths-then (s .same) same;
         same-places = same-places ∙ s .same-places;
       })
 

@@ -4,12 +4,13 @@ use Rattle.aig.specs.Literal.{vertexOf}
 use Rattle.aig.specs.Lookup.{firstWord, secondWord}
 use Rattle.sweep_graph.proofs.StageLaws.{stage-at}
 use Rattle.sweep_graph.specs.code.Stages.{wordStage}
-use Rattle.sweep_model.proofs.Induction.{Claim, Keeps, Reached, endings-keep, goes-on, visit-claim}
+use Rattle.sweep_model.proofs.Bound.{claim-on, nothing}
+use Rattle.sweep_model.proofs.Induction.{visit-claim}
 use Rattle.sweep_model.proofs.Steady.{scanning-passed}
 use Rattle.sweep_model.specs.Fit.{Downward, Fit, vertexCount}
 use Rattle.sweep_model.specs.State.{Problem, State, bare?, open?, stageOf}
 use Rattle.sweep_model.specs.code.Steady.{Scanning, Steady}
-use Rattle.sweep_model.specs.Sweep.{Verdict, on, ready?, visit}
+use Rattle.sweep_model.specs.Sweep.{on, ready?, visit}
 use Rattle.sweep_model.specs.declared.Cause.the-variants.{Rows, Steps}
 use Rattle.sweep_parts.specs.code.Ending.{Ends}
 use Rattle.sweep_parts.specs.code.Look.{progressOf}
@@ -42,27 +43,7 @@ visit-scans :
     {p : Problem} {entry : List ℕ} → Fit p entry → (n v : ℕ) (s z : State) → v < vertexCount p → Steady p entry s → Scanning p n v s → visit p v s ≡ on z
     → Scanning p n (suc v) z
 visit-scans {p} {entry} fit n v s z h steady scanning e =
-    opened (subst (Claim (Reached fit keeps n (suc v)) nothing) e (visit-claim fit keeps n v s h (record { steady = steady; scanned = scanning; kept = tt }))) .scanned
-  where
-    nothing : Verdict → State → Type 0
-    nothing x y = Unit {0}
-
-    keeps : Keeps p entry (λ place y. Unit {0}) nothing
-    keeps =
-        endings-keep
-        (record {
-          same-literal = λ y g i. tt;
-          inverse-literal = λ y g i. tt;
-          same-function = λ y g i. tt;
-          other-function = λ y g i. tt;
-          lacks-input-row = λ u y g. tt;
-          lacks-row = λ u c y g. tt;
-          lacks-step = λ u c y g. tt;
-          rests = λ y g. tt;
-        })
-
-    opened : {y : State} → Claim (Reached fit keeps n (suc v)) nothing (on y) → Reached fit keeps n (suc v) y
-    opened (goes-on k) = k
+    claim-on (visit-claim fit (nothing p entry) n v s h (record { steady = steady; scanned = scanning; kept = tt })) e .scanned
 
 module _ {t : Task} {x : Context} {v used steps : ℕ} {b : Workspace} (h : ScanOn t x v used steps b) (inside : v < t .count) where
   rows-down : Downward (t .first) (t .count) (b .pairs)

@@ -1,13 +1,13 @@
 -- Tests 10 and 11 against what they say of the words.
 use Prim.Native.Nat.{_*_, _+_, _<_, suc, zero, ℕ}
 use Rattle.table.proofs.LayoutLaws.{length-output-words, length-rows, row-at, side-output-word, side-start-bound}
-use Rattle.table.proofs.RefusalLaws.{neither, none-applies}
+use Rattle.table.proofs.RefusalLaws.{none-applies}
 use Rattle.table.specs.Accepted.{Accepted, Downward, RowBelow, WellFormed}
 use Rattle.table.specs.Limits.{maxAnds, maxInputs, maxOutputs}
 use Rattle.table.specs.Refusals.{firstRefusal}
 use Rattle.table.specs.Table.{allBelow?, beyondLimits?, downward?, inputsOf, madeOf, malformed?, outOfOrder?, outputWords, outputsOf, promised, rowAt, rowBelow?, rowsOf, sideOutputs, sideStart, tableTests, verticesOf}
 use Rattle.table.specs.Values.{Pair}
-use Rattle.truth.proofs.Booleans.{and-left, and-right}
+use Rattle.truth.proofs.Booleans.{and-left, and-right, neither}
 use borrow.Author.Tests.{eqb-false, le-ltb, lt-ltb, ltb-false, ltb-true, ne-eqb, not-false}
 use lib.Dec.{eqb, ltb}
 use lib.ListN.{getD, length}

@@ -37,10 +37,9 @@ fits-accepted ws h =
 pub fits-passes : (ws : List ℕ) → Fits ws → firstRefusal 0 (tableTests ws) ≡ 0
 fits-passes ws h = accepts ws (fits-accepted ws h)
 
--- Words to which neither 10 nor 11 applies keep the rules.
-pub passed-fits : (ws : List ℕ) → firstRefusal 0 (tableTests ws) ≡ 0 → Fits ws
-passed-fits ws e =
-    let h = accepted ws e in
+-- Words that 10 and 11 leave keep the rules.
+pub accepted-fits : {ws : List ℕ} → Accepted ws → Fits ws
+accepted-fits {ws} h =
     record {
       header = h .formed .header;
       inputs = h .formed .inputs;
@@ -52,3 +51,7 @@ passed-fits ws e =
       seconds = λ i l. row-words-below h i l .second;
       references = λ k l. rw (← output-word-at ws k l) (h .references k (omega (arith, length-output-words ws (h .formed .whole))));
     }
+
+-- So do words to which neither applies.
+pub passed-fits : (ws : List ℕ) → firstRefusal 0 (tableTests ws) ≡ 0 → Fits ws
+passed-fits ws e = accepted-fits (accepted ws e)

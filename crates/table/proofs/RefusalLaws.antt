@@ -2,16 +2,10 @@
 use Prim.Native.Nat.{_≤_, ℕ}
 use Rattle.table.specs.Refusals.{Test, firstRefusal}
 use Rattle.table.specs.Table.{malformed?, outOfOrder?, tableTests}
-use Rattle.truth.proofs.Booleans.{clash}
-use mathlib.Core.Bool.{Bool, _||_, cond, false, true}
+use mathlib.Core.Bool.{Bool, cond, false, true}
 use mathlib.Core.List.{List, [], _++_, _∷_}
 use mathlib.Core.Path.{_≡_, refl}
 use native.Mathlib.Omega.{arith}
-
--- Where an or is false, neither part is true.
-pub neither : (a b : Bool) → a || b ≡ false → (a ≡ false) × (b ≡ false)
-neither true b h = clash refl h
-neither false b h = (refl, h)
 
 -- Where no test applies, the first does not, and none of the others does.
 pub none-applies : (n : ℕ) (b : Bool) (ts : List (Test ℕ)) → 1 ≤ n → firstRefusal 0 (record { answer = n; applies = b } ∷ ts) ≡ 0

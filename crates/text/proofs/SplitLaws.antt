@@ -1,13 +1,13 @@
 -- Laws of `upTo`, `splitAt` and `join`.
 use Prim.Native.Nat.{_+_, _<_, _≤_, suc, ℕ}
 use Rattle.text.specs.Split.{anyHas, has, join, onFirst, splitAt, upTo}
-use borrow.Author.Tests.{eq-eqb, eqb-true}
+use borrow.Author.Tests.{eq-eqb, eqb-true, ne-eqb}
 use lib.Dec.{eqb}
 use lib.ListN.{drop, getD, length, length-drop}
 use lib.Seq.{drop-drop}
-use mathlib.Core.Bool.{Bool, _||_, cond, false, false≢true, true}
+use mathlib.Core.Bool.{Bool, _||_, cond, false, false≢true, or-false, true}
 use mathlib.Core.List.{List, [], _++_, _∷_}
-use mathlib.Core.Path.{_∙_, _≡_, ap, refl}
+use mathlib.Core.Path.{_∙_, _≡_, ap, refl, sym}
 use native.Mathlib.Numerals.{add-one}
 use native.Mathlib.Omega.{arith}
 
@@ -133,3 +133,24 @@ splitAt-join k p (q ∷ ps) h = go (has k p) refl (splitAt-join k q ps) h
     go : (t : Bool) → has k p ≡ t → (anyHas k (q ∷ ps) ≡ false → splitAt k (join k (q ∷ ps)) ≡ q ∷ ps) → (t || anyHas k (q ∷ ps)) ≡ false → splitAt k (p ++ k ∷ join k (q ∷ ps)) ≡ p ∷ (q ∷ ps)
     go true e f h = cc
     go false e f h = splitAt-append k p (join k (q ∷ ps)) e ∙ ap (λ (l : List (List ℕ)). p ∷ l) (f h)
+
+-- Bytes that lack a separator, one after the other, lack it.
+lacks-append : (k : ℕ) (s t : List ℕ) → has k s ≡ false → has k t ≡ false → has k (s ++ t) ≡ false
+lacks-append k [] t h g = g
+lacks-append k (b ∷ bs) t h g = go (eqb b k) (λ e. lacks-append k bs t e g) h
+  where
+    go : (x : Bool) → (has k bs ≡ false → has k (bs ++ t) ≡ false) → (x || has k bs) ≡ false → (x || has k (bs ++ t)) ≡ false
+    go true f e = e
+    go false f e = f e
+
+-- So do parts joined by another byte.
+pub lacks-join : (k stop : ℕ) (ps : List (List ℕ)) → (stop ≡ k → ⊥) → anyHas k ps ≡ false → has k (join stop ps) ≡ false
+lacks-join k stop [] n h = refl
+lacks-join k stop (p ∷ []) n h = sym (or-false (has k p)) ∙ h
+lacks-join k stop (p ∷ (q ∷ ps)) n h = go (has k p) refl (lacks-join k stop (q ∷ ps) n) h
+  where
+    go :
+        (x : Bool) → has k p ≡ x → (anyHas k (q ∷ ps) ≡ false → has k (join stop (q ∷ ps)) ≡ false) → (x || anyHas k (q ∷ ps)) ≡ false
+        → has k (p ++ stop ∷ join stop (q ∷ ps)) ≡ false
+    go true x f e = cc
+    go false x f e = lacks-append k p (stop ∷ join stop (q ∷ ps)) x (rw (ne-eqb stop k n) (f e))

@@ -34,6 +34,11 @@ pub or-cases : (a b : Bool) → a || b ≡ true → (a ≡ true) ⊎ (b ≡ true
 or-cases true b h = inl refl
 or-cases false b h = inr h
 
+-- Where an or is false, neither part is true.
+pub neither : (a b : Bool) → a || b ≡ false → (a ≡ false) × (b ≡ false)
+neither true b h = clash refl h
+neither false b h = (refl, h)
+
 pub or-left : (a b : Bool) → a ≡ true → a || b ≡ true
 or-left true b h = refl
 or-left false b h = clash h refl

@@ -15,23 +15,23 @@ use mathlib.Core.Path.{_∙_, _≡_, ap, ap₂, refl, sym}
 use native.Mathlib.Omega.{arith}
 
 -- Being equal or inverse is a sameness.
+pub alike-turn : (f g : Truth) → alike? f g ≡ true → alike? g f ≡ true
+alike-turn f g h = ⊎-elim (λ e. equal-alike (sym e)) (λ e. inverse-alike g f (invert-across (sym e))) (alike-cases f g h)
+
+pub alike-chain : (f g h : Truth) → alike? f g ≡ true → alike? g h ≡ true → alike? f h ≡ true
+alike-chain f g h d e =
+    ⊎-elim
+    (λ p. rw p e)
+    (λ p. ⊎-elim (λ q. inverse-alike f h (p ∙ ap invert q)) (λ q. equal-alike (p ∙ ap invert q ∙ invert-twice h)) (alike-cases g h e))
+    (alike-cases f g d)
+
 pub alike-sameness : Sameness alike?
 alike-sameness =
     record {
       reflexive = λ f. equal-alike {f = f} refl;
-      symmetric = λ f g. iff-equal (alike? f g) (alike? g f) (turn f g) (turn g f);
-      congruent = λ f g h e. iff-equal (alike? f h) (alike? g h) (chain g f h (turn f g e)) (chain f g h e);
+      symmetric = λ f g. iff-equal (alike? f g) (alike? g f) (alike-turn f g) (alike-turn g f);
+      congruent = λ f g h e. iff-equal (alike? f h) (alike? g h) (alike-chain g f h (alike-turn f g e)) (alike-chain f g h e);
     }
-  where
-    turn : (f g : Truth) → alike? f g ≡ true → alike? g f ≡ true
-    turn f g h = ⊎-elim (λ e. equal-alike (sym e)) (λ e. inverse-alike g f (invert-across (sym e))) (alike-cases f g h)
-
-    chain : (f g h : Truth) → alike? f g ≡ true → alike? g h ≡ true → alike? f h ≡ true
-    chain f g h d e =
-        ⊎-elim
-        (λ p. rw p e)
-        (λ p. ⊎-elim (λ q. inverse-alike f h (p ∙ ap invert q)) (λ q. equal-alike (p ∙ ap invert q ∙ invert-twice h)) (alike-cases g h e))
-        (alike-cases f g d)
 
 -- The parts of a function: itself where its halves differ, and the parts of its halves.
 pub parts-leaf : (b : Bool) → parts (leaf b) ≡ []
