@@ -4,7 +4,7 @@ use Rattle.compare_model.proofs.RefusalLaws.{compared-answered, compared-refuse
 use Rattle.compare_model.specs.Compare.{Given, answerTo, answered, callTests, compared, refusalOf, saidBy, settingLeft, tableLeft, turnedBack}
 use Rattle.compare_model.specs.Passed.{Passed}
 use Rattle.compare_model.specs.Said.{Said, saidOf}
-use Rattle.compare_parts.specs.code.Code.{left}
+use Rattle.comparer.specs.Lent.{left}
 use Rattle.comparer.specs.code.Work.{Finishes, SweepRan}
 use Rattle.sweep_parts.specs.code.Ending.{verdictOf}
 use Rattle.sweep_parts.specs.declared.end.Ended.{Ended}

@@ -5,7 +5,8 @@ use Rattle.compare_model.proofs.GraphLaws.{count-vertices, fits, length-graph}
 use Rattle.compare_model.specs.Compare.{answerTo, graphWords, overFront, problemOf}
 use Rattle.compare_model.specs.Passed.{Enough, LimitsWithin}
 use Rattle.compare_model.specs.declared.Limits.{Limits}
-use Rattle.compare_parts.specs.code.Code.{given, limitsOf, roomOfLists}
+use Rattle.compare_parts.specs.code.Code.{limitsOf}
+use Rattle.comparer.specs.Lent.{given, holding, roomOfLists}
 use Rattle.comparer.specs.code.Work.{Posed, SweepRan}
 use Rattle.sweep_parts.specs.code.Ending.{verdictOf}
 use Rattle.sweep_parts.specs.code.Arrays.{arrays}
@@ -109,7 +110,7 @@ module _ (table : List ℕ) (output : ℕ) (limits : Limits) (accepted : Accepte
       marks-left = ap (λ (a : Result). a .left .marks) (answers .answer) ∙ take-all (t .count) (after .arrays .marks) (omega (arith, kept, lent-marks))
 
       -- What the end says of the comparison.
-      pub ran : SweepRan (given table output limits pairs look diagrams stages rows marks setting) (after .pairs ++ drop (2 * t .count) lent) (after .arrays .rows)
+      pub ran : SweepRan (given output limits (holding table pairs look diagrams stages rows marks setting)) (after .pairs ++ drop (2 * t .count) lent) (after .arrays .rows)
           (after .arrays .marks ++ drop (t .count) marks) e
       unfolding answerTo
       ran =

@@ -6,10 +6,7 @@ use compare_model::Limits;
 use compare_parts::refusal;
 use compare_parts::refusal::Lengths;
 use sweep_model::Reply;
-ghost use Rattle.compare_model.specs.Compare.{compared, refusalOf};
-ghost use Rattle.compare_model.specs.Said.{saidOf};
-ghost use Rattle.compare_parts.specs.code.Code.{Unchanged, given, left};
-ghost use mathlib.Core.Path.{_≡_};
+ghost use Rattle.comparer.specs.Lent.{Compared, slices};
 
 // Compares output number `output` of the two sides of a table. The reply is one of:
 // - Refused, with the number of the first refusal that applies, 10 to 15: then no slice is changed;
@@ -30,8 +27,7 @@ pub fn compare(
     marks: &mut [u8],
     setting: &mut [u8],
 ) -> Reply
-    ensures { λ r. ⌜ left (saidOf r) (now (table .exit)) (now (marks .exit)) (now (setting .exit)) ≡ compared (given (now (table .entry)) output limits (now (pairs .entry)) (now (look .entry)) (now (diagrams .entry)) (now (stages .entry)) (now (rows .entry)) (now (marks .entry)) (now (setting .entry))) ⌝ }
-    ensures { λ _. ⌜ ((refusalOf (given (now (table .entry)) output limits (now (pairs .entry)) (now (look .entry)) (now (diagrams .entry)) (now (stages .entry)) (now (rows .entry)) (now (marks .entry)) (now (setting .entry))) ≡ 0 → ⊥) → Unchanged (now (pairs .entry)) (now (pairs .exit)) (now (look .entry)) (now (look .exit)) (now (diagrams .entry)) (now (diagrams .exit)) (now (stages .entry)) (now (stages .exit)) (now (rows .entry)) (now (rows .exit))) ⌝ }
+    ensures { λ r. ⌜ Compared output limits (slices table pairs look diagrams stages rows marks setting) r ⌝ }
 {
     let lengths = Lengths {
         pairs: pairs.len(),

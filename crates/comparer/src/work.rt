@@ -8,17 +8,17 @@ use compare_parts::reply::write_setting;
 use sweep::sweep;
 use sweep_model::Reply;
 use sweep_parts::end::Ended;
-ghost use Prim.Native.Nat.{_*_, _<_, ℕ};
+ghost use Prim.Native.Nat.{_*_, _<_};
 ghost use Rattle.compare_model.specs.Compare.{saidBy, settingLeft, tableLeft};
 ghost use Rattle.compare_model.specs.Passed.{Enough, LimitsWithin};
 ghost use Rattle.compare_model.specs.Said.{saidOf};
-ghost use Rattle.compare_parts.specs.code.Code.{given, limitsOf, roomOfLists};
-ghost use Rattle.comparer.specs.code.Work.{Finishes, SweepRan};
+ghost use Rattle.compare_parts.specs.code.Code.{limitsOf};
+ghost use Rattle.comparer.specs.Lent.{Slice, roomOfLists, slices};
+ghost use Rattle.comparer.specs.code.Work.{Finishes, Swept};
 ghost use Rattle.sweep_parts.specs.code.Ending.{verdictOf};
 ghost use Rattle.table.specs.Accepted.{Accepted};
 ghost use Rattle.table.specs.Table.{inputsOf, outputsOf, verticesOf};
 ghost use lib.ListN.{length, take};
-ghost use mathlib.Core.List.{List};
 ghost use mathlib.Core.Path.{_≡_};
 
 // The table's rows are copied to the pairs and swept there.
@@ -37,7 +37,7 @@ pub fn run(
     requires known { ⌜ output < outputsOf (now table) ⌝ }
     requires within { ⌜ LimitsWithin (limitsOf limits) ⌝ }
     requires room { ⌜ Enough (verticesOf (now table)) (limits .rows) (roomOfLists (now pairs) (now look) (now diagrams) (now stages) (now rows)) (length (now marks)) ⌝ }
-    ensures { λ r. ⌜ ((setting : List ℕ) → SweepRan (given (now (table .entry)) output limits (now (pairs .entry)) (now (look .entry)) (now (diagrams .entry)) (now (stages .entry)) (now (rows .entry)) (now (marks .entry)) setting) (now (pairs .exit)) (now (rows .exit)) (now (marks .exit)) r) ⌝ }
+    ensures { λ r. ⌜ ((setting : Slice) → Swept output limits (slices table pairs look diagrams stages rows marks setting) r) ⌝ }
 {
     copy_in(table, pairs);
     let task = task_of(table, output, limits);

@@ -1,6 +1,8 @@
 -- The slices that load is lent: their lengths, and what a refusal leaves in them.
 use Prim.Native.Nat.{ℕ}
 use Rattle.load_model.specs.Load.{Answer, LoadRoom, accepted, refused}
+use denote.Ref.{RefT, now}
+use lib.ListN.{length}
 use mathlib.Core.List.{List}
 use mathlib.Core.Path.{_≡_}
 
@@ -9,15 +11,20 @@ abbrev pub roomOf : ℕ → ℕ → ℕ → ℕ → ℕ → LoadRoom
 roomOf table pairs look literals outputs =
     record { table = table; pairs = pairs; look = look; literals = literals; outputs = outputs }
 
--- The four working slices.
+-- The same, of the slices.
+abbrev pub roomIn : RefT (List ℕ) → RefT (List ℕ) → RefT (List ℕ) → RefT (List ℕ) → RefT (List ℕ) → LoadRoom
+roomIn table pairs look literals outputs =
+    roomOf (length (now table)) (length (now pairs)) (length (now look)) (length (now literals)) (length (now outputs))
+
+-- The lists that the four working slices hold.
 pub record Working : Type 0 where
   pub pairs : List ℕ
   pub look : List ℕ
   pub literals : List ℕ
   pub outputs : List ℕ
 
-abbrev pub working : List ℕ → List ℕ → List ℕ → List ℕ → Working
-working pairs look literals outputs = record { pairs = pairs; look = look; literals = literals; outputs = outputs }
+abbrev pub working : RefT (List ℕ) → RefT (List ℕ) → RefT (List ℕ) → RefT (List ℕ) → Working
+working pairs look literals outputs = record { pairs = now pairs; look = now look; literals = now literals; outputs = now outputs }
 
 -- "refusals leaving all of them unchanged, and free are only the working slices" (RULES 8.3, 12.5)
 abbrev pub Kept : Answer → Working → Working → Type 0

@@ -2,9 +2,8 @@
 use crate::decision::Decision;
 use load_model::Loaded;
 ghost use Rattle.load_model.specs.Load.{answerOf, loadResult, tableAfter};
-ghost use Rattle.load.specs.Lent.{Kept, roomOf, working};
+ghost use Rattle.load.specs.Lent.{Kept, roomIn, working};
 ghost use Rattle.netlist.specs.Check.{readNetlist};
-ghost use lib.ListN.{length};
 ghost use mathlib.Core.Path.{_≡_};
 
 mod decision;
@@ -27,9 +26,9 @@ pub fn load(
     literals: &mut [u32],
     outputs: &mut [u32],
 ) -> Loaded
-    ensures result { λ r. ⌜ answerOf r ≡ loadResult (now (left .entry)) (now (right .entry)) (roomOf (length (now (table .entry))) (length (now (pairs .entry))) (length (now (look .entry))) (length (now (literals .entry))) (length (now (outputs .entry)))) ⌝ }
+    ensures result { λ r. ⌜ answerOf r ≡ loadResult (now (left .entry)) (now (right .entry)) (roomIn (table .entry) (pairs .entry) (look .entry) (literals .entry) (outputs .entry)) ⌝ }
     ensures table { λ r. ⌜ now (table .exit) ≡ tableAfter (answerOf r) (readNetlist (now (left .entry))) (readNetlist (now (right .entry))) (now (table .entry)) ⌝ }
-    ensures kept { λ r. ⌜ Kept (answerOf r) (working (now (pairs .entry)) (now (look .entry)) (now (literals .entry)) (now (outputs .entry))) (working (now (pairs .exit)) (now (look .exit)) (now (literals .exit)) (now (outputs .exit))) ⌝ }
+    ensures kept { λ r. ⌜ Kept (answerOf r) (working (pairs .entry) (look .entry) (literals .entry) (outputs .entry)) (working (pairs .exit) (look .exit) (literals .exit) (outputs .exit)) ⌝ }
 {
     let decision = decision::decide(
         left,

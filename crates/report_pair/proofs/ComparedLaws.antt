@@ -2,7 +2,7 @@
 use Prim.Native.Nat.{_+_, _≤_, ℕ}
 use Rattle.compare_model.specs.Compare.{CompareRoom, Given, Left, compared}
 use Rattle.compare_model.specs.Said.{saidOf}
-use Rattle.compare_parts.specs.code.Code.{left}
+use Rattle.comparer.specs.Lent.{left}
 use Rattle.reply_line.specs.Line.{lineFor}
 use Rattle.report.specs.Report.{LINE-ROOM, StoredWithin}
 use Rattle.report_model.specs.Report.{comparisonLine, next, replyRoom}

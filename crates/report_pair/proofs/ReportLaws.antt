@@ -1,7 +1,7 @@
 -- What the call gives back and leaves is the report.
 use Prim.Native.Nat.{_*_, _+_, _≤_, ℕ}
 use Rattle.compare_model.specs.Compare.{Given, overFront}
-use Rattle.compare_parts.specs.code.Code.{Unchanged}
+use Rattle.comparer.specs.Lent.{Slices, Unchanged}
 use Rattle.load.specs.Lent.{Kept, Working}
 use Rattle.load_model.specs.Load.{Answer, LoadRoom, accepted, loadResult, refused, tableAfter}
 use Rattle.load_model.specs.declared.Tally.{Tally}
@@ -10,7 +10,8 @@ use Rattle.report.proofs.StoredLaws.{stored-next}
 use Rattle.report.specs.Report.{LINE-ROOM, Printed, StoredWithin, headLine, lineLength, linePut, refusedLine}
 use Rattle.report_model.proofs.ReportLaws.{loaded-accepted, report-loaded}
 use Rattle.report_model.specs.Report.{Lent, after, comparisons, firstOf, linesOf, loadRoom, replyRoom, reportOf, reportRoom, reported, short?}
-use Rattle.report_pair.specs.code.Slices.{Front, Ready, reportLeft}
+use Rattle.report_pair.specs.Lent.{Front, reportLeft}
+use Rattle.report_pair.specs.code.Slices.{Ready}
 use Rattle.table.specs.Limits.{maxInputs, maxOutputs}
 use Rattle.table.specs.Table.{outputsOf}
 use Rattle.text.specs.Decimal.{Stored, written}
@@ -78,16 +79,19 @@ module _ (left right : List ℕ) (lent : Lent) (long : short? lent ≡ false) (l
       ∙ ap (λ (g : Given). reportLeft (length bytes) (overFront bytes (lent .out)) (g .table) (g .marks) (g .setting)) (l ∙ ap (after (outputsOf table)) g)
       ∙ sym (report-loaded left right lent long (accepted tally) (sym e ∙ f) table (rw f at t))
 
+-- The four slices that load works in.
+abbrev loadWorking : Slices → Working
+loadWorking s = record { pairs = s .pairs; look = s .look; literals = s .diagrams; outputs = s .stages }
+
 -- A refused load leaves the slices to work in.
-pub refused-unchanged : (loaded : Answer) {number file line : ℕ} → loaded ≡ refused number file line → (before after : Working) → Kept loaded before after
-    → (rows : List ℕ)
-    → Unchanged (before .pairs) (after .pairs) (before .look) (after .look) (before .literals) (after .literals) (before .outputs) (after .outputs) rows rows
-refused-unchanged loaded e before after k rows =
-    let same : after ≡ before = rw e at k in
+pub refused-unchanged : (loaded : Answer) {number file line : ℕ} → loaded ≡ refused number file line → {before after : Slices}
+    → Kept loaded (loadWorking before) (loadWorking after) → after .rows ≡ before .rows → Unchanged before after
+refused-unchanged loaded e {before} {after} k rows =
+    let same : loadWorking after ≡ loadWorking before = rw e at k in
     record {
-      pairs-kept = ap (λ (w : Working). w .pairs) same;
-      look-kept = ap (λ (w : Working). w .look) same;
-      diagrams-kept = ap (λ (w : Working). w .literals) same;
-      stages-kept = ap (λ (w : Working). w .outputs) same;
-      rows-kept = refl;
+      pairs = ap (λ (w : Working). w .pairs) same;
+      look = ap (λ (w : Working). w .look) same;
+      diagrams = ap (λ (w : Working). w .literals) same;
+      stages = ap (λ (w : Working). w .outputs) same;
+      rows = rows;
     }

@@ -5,10 +5,9 @@ use crate::lines::report_table;
 use load_model::Loaded;
 use report_model::REPORT_ROOM;
 use report_model::ROWS_ROOM;
-ghost use Rattle.compare_parts.specs.code.Code.{Unchanged};
-ghost use Rattle.report_model.specs.Report.{reportOf, shortRoom?, works?};
-ghost use Rattle.report_pair.specs.code.Slices.{Front, lent, reportLeft};
-ghost use mathlib.Core.Bool.{false};
+ghost use Rattle.comparer.specs.Lent.{slices};
+ghost use Rattle.report_model.specs.Report.{shortRoom?};
+ghost use Rattle.report_pair.specs.Lent.{Front, Reported};
 ghost use mathlib.Core.Path.{_≡_};
 
 // Puts the report on two files at the front of `out` and gives back its length: the line of a refused load, or the head line and a line
@@ -27,9 +26,8 @@ pub fn report_pair(
     marks: &mut [u8],
     setting: &mut [u8],
 ) -> usize
-    ensures { λ r. ⌜ reportLeft r (now (out .exit)) (now (table .exit)) (now (marks .exit)) (now (setting .exit)) ≡ reportOf (now (left .entry)) (now (right .entry)) (lent (now (out .entry)) (now (table .entry)) (now (pairs .entry)) (now (look .entry)) (now (diagrams .entry)) (now (stages .entry)) (now (rows .entry)) (now (marks .entry)) (now (setting .entry))) ⌝ }
+    ensures { λ r. ⌜ Reported (now (left .entry)) (now (right .entry)) out (slices table pairs look diagrams stages rows marks setting) r ⌝ }
     ensures { λ r. ⌜ Front r (now (out .exit)) ⌝ }
-    ensures { λ _. ⌜ (works? (now (left .entry)) (now (right .entry)) (lent (now (out .entry)) (now (table .entry)) (now (pairs .entry)) (now (look .entry)) (now (diagrams .entry)) (now (stages .entry)) (now (rows .entry)) (now (marks .entry)) (now (setting .entry))) ≡ false → Unchanged (now (pairs .entry)) (now (pairs .exit)) (now (look .entry)) (now (look .exit)) (now (diagrams .entry)) (now (diagrams .exit)) (now (stages .entry)) (now (stages .exit)) (now (rows .entry)) (now (rows .exit))) ⌝ }
 {
     if is_short(out.len(), rows.len(), marks.len(), setting.len()) {
         return 0;

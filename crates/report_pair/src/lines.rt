@@ -6,13 +6,13 @@ use report_model::STEP_LIMIT;
 use sweep_model::Reply;
 ghost use Prim.Native.Nat.{_*_, _+_, _≤_};
 ghost use Rattle.compare_model.specs.Said.{saidOf};
+ghost use Rattle.comparer.specs.Lent.{slices};
 ghost use Rattle.reply_line.specs.Line.{lineFor};
-ghost use Rattle.report.specs.Report.{LINE-ROOM, StoredWithin, headLine};
-ghost use Rattle.report_model.specs.Report.{after, comparisonLine, comparisons, linesOf, next, replyRoom, reportRoom};
-ghost use Rattle.report_pair.specs.code.Slices.{Ready, asked};
+ghost use Rattle.report.specs.Report.{LINE-ROOM, StoredWithin};
+ghost use Rattle.report_model.specs.Report.{comparisonLine, next, replyRoom, reportRoom};
+ghost use Rattle.report_pair.specs.code.Slices.{LeftAfter, Ready, asked, firstLines, tableLines};
 ghost use Rattle.table.specs.Table.{outputsOf};
 ghost use lib.ListN.{length};
-ghost use mathlib.Core.List.{_++_};
 ghost use mathlib.Core.Path.{_≡_};
 
 // Puts the head line and the lines of a loaded table at the front of `out`, and gives back their length.
@@ -29,8 +29,8 @@ pub fn report_table(
 ) -> usize
     requires { ⌜ Ready (now table) (length (now setting)) ⌝ }
     requires { ⌜ reportRoom ≤ length (now out) ⌝ }
-    ensures { λ r. ⌜ StoredWithin (now (out .entry)) 0 reportRoom (headLine ++ linesOf (comparisons (outputsOf (now (table .entry))) (asked (now (table .entry)) 0 (now (pairs .entry)) (now (look .entry)) (now (diagrams .entry)) (now (stages .entry)) (now (rows .entry)) (now (marks .entry)) (now (setting .entry))))) (now (out .exit)) r ⌝ }
-    ensures { λ _. ⌜ asked (now (table .exit)) (outputsOf (now (table .entry))) (now (pairs .exit)) (now (look .exit)) (now (diagrams .exit)) (now (stages .exit)) (now (rows .exit)) (now (marks .exit)) (now (setting .exit)) ≡ after (outputsOf (now (table .entry))) (asked (now (table .entry)) 0 (now (pairs .entry)) (now (look .entry)) (now (diagrams .entry)) (now (stages .entry)) (now (rows .entry)) (now (marks .entry)) (now (setting .entry))) ⌝ }
+    ensures { λ r. ⌜ StoredWithin (now (out .entry)) 0 reportRoom (tableLines (slices table pairs look diagrams stages rows marks setting .entry)) (now (out .exit)) r ⌝ }
+    ensures { λ _. ⌜ LeftAfter (outputsOf (now (table .entry))) (slices table pairs look diagrams stages rows marks setting) ⌝ }
 {
     let start = report::write_head(out);
     let outputs = table[2];
@@ -67,8 +67,8 @@ fn report_outputs(
     requires { ⌜ Ready (now table) (length (now setting)) ⌝ }
     requires { ⌜ outputs ≡ outputsOf (now table) ⌝ }
     requires { ⌜ start + outputs * replyRoom ≤ length (now out) ⌝ }
-    ensures { λ r. ⌜ StoredWithin (now (out .entry)) start (outputs * replyRoom) (linesOf (comparisons outputs (asked (now (table .entry)) 0 (now (pairs .entry)) (now (look .entry)) (now (diagrams .entry)) (now (stages .entry)) (now (rows .entry)) (now (marks .entry)) (now (setting .entry))))) (now (out .exit)) r ⌝ }
-    ensures { λ _. ⌜ asked (now (table .exit)) outputs (now (pairs .exit)) (now (look .exit)) (now (diagrams .exit)) (now (stages .exit)) (now (rows .exit)) (now (marks .exit)) (now (setting .exit)) ≡ after outputs (asked (now (table .entry)) 0 (now (pairs .entry)) (now (look .entry)) (now (diagrams .entry)) (now (stages .entry)) (now (rows .entry)) (now (marks .entry)) (now (setting .entry))) ⌝ }
+    ensures { λ r. ⌜ StoredWithin (now (out .entry)) start (outputs * replyRoom) (firstLines outputs (slices table pairs look diagrams stages rows marks setting .entry)) (now (out .exit)) r ⌝ }
+    ensures { λ _. ⌜ LeftAfter outputs (slices table pairs look diagrams stages rows marks setting) ⌝ }
 {
     let mut at = start;
     let mut output = 0;
@@ -107,8 +107,8 @@ fn report_output(
 ) -> usize
     requires { ⌜ Ready (now table) (length (now setting)) ⌝ }
     requires { ⌜ at + replyRoom ≤ length (now out) ⌝ }
-    ensures { λ r. ⌜ StoredWithin (now (out .entry)) at replyRoom (comparisonLine (asked (now (table .entry)) output (now (pairs .entry)) (now (look .entry)) (now (diagrams .entry)) (now (stages .entry)) (now (rows .entry)) (now (marks .entry)) (now (setting .entry)))) (now (out .exit)) r ⌝ }
-    ensures { λ _. ⌜ asked (now (table .exit)) (output + 1) (now (pairs .exit)) (now (look .exit)) (now (diagrams .exit)) (now (stages .exit)) (now (rows .exit)) (now (marks .exit)) (now (setting .exit)) ≡ next (asked (now (table .entry)) output (now (pairs .entry)) (now (look .entry)) (now (diagrams .entry)) (now (stages .entry)) (now (rows .entry)) (now (marks .entry)) (now (setting .entry))) ⌝ }
+    ensures { λ r. ⌜ StoredWithin (now (out .entry)) at replyRoom (comparisonLine (asked output (slices table pairs look diagrams stages rows marks setting .entry))) (now (out .exit)) r ⌝ }
+    ensures { λ _. ⌜ asked (output + 1) (slices table pairs look diagrams stages rows marks setting .exit) ≡ next (asked output (slices table pairs look diagrams stages rows marks setting .entry)) ⌝ }
 {
     let limits = Limits {
         size: SIZE_LIMIT,

@@ -2,10 +2,10 @@
 -- The laws say it of the arguments as given.
 use Rattle.compare_model.proofs.RefusalLaws.{passed}
 use Rattle.compare_model.specs.Compare.{Given}
-use Rattle.compare_parts.specs.code.Code.{given}
 use Rattle.comparer.proofs.CompareLaws.{finished, finishes, refusal-found, turned-back}
 use Rattle.comparer.proofs.compare.Statement.{statement}
 use Rattle.comparer.proofs.compare.Tie as tie
+use Rattle.comparer.specs.Lent.{given, holding}
 use borrow.Author.Needs.{needs}
 use mathlib.Core.Path.{_∙_, refl, sym}
 
@@ -19,17 +19,18 @@ returns : tie.Need-returns
 returns c =
     let number = c .before .first-refusal in
     let a = c .before .before .before .before .before .before .before .before .before .before .before .args in
-    let g : Given = given (a .table .now) (a .output) (a .limits) (a .pairs .now) (a .look .now) (a .diagrams .now) (a .stages .now) (a .rows .now) (a .marks .now) (a .setting .now) in (
-      turned-back g (number .result) (refusal-found g (number .result) (number .ensures)) (c .if1 .taken),
-      λ h. record { pairs-kept = refl; look-kept = refl; diagrams-kept = refl; stages-kept = refl; rows-kept = refl },
-    )
+    let g : Given = given (a .output) (a .limits) (holding (a .table .now) (a .pairs .now) (a .look .now) (a .diagrams .now) (a .stages .now) (a .rows .now) (a .marks .now) (a .setting .now)) in
+    record {
+      result = turned-back g (number .result) (refusal-found g (number .result) (number .ensures)) (c .if1 .taken);
+      kept = λ h. record { pairs = refl; look = refl; diagrams = refl; stages = refl; rows = refl };
+    }
 
 run-requires : tie.Need-run-requires
 run-requires c κs =
     let test = c .before .before .before .before .before .before .before in
     let number = test .before .first-refusal in
     let a = test .before .before .before .before .before .before .before .before .before .before .before .args in
-    let g : Given = given (a .table .now) (a .output) (a .limits) (a .pairs .now) (a .look .now) (a .diagrams .now) (a .stages .now) (a .rows .now) (a .marks .now) (a .setting .now) in
+    let g : Given = given (a .output) (a .limits) (holding (a .table .now) (a .pairs .now) (a .look .now) (a .diagrams .now) (a .stages .now) (a .rows .now) (a .marks .now) (a .setting .now)) in
     let p = passed g (sym (refusal-found g (number .result) (number .ensures)) ∙ test .if1 .left) in
     (p .table, (p .output, (p .limits, p .room)))
 
@@ -39,9 +40,9 @@ finish-requires c κs =
     let test = run .before .before .before .before .before .before .before .before in
     let number = test .before .first-refusal in
     let a = test .before .before .before .before .before .before .before .before .before .before .before .args in
-    let g : Given = given (a .table .now) (a .output) (a .limits) (a .pairs .now) (a .look .now) (a .diagrams .now) (a .stages .now) (a .rows .now) (a .marks .now) (a .setting .now) in
+    let g : Given = given (a .output) (a .limits) (holding (a .table .now) (a .pairs .now) (a .look .now) (a .diagrams .now) (a .stages .now) (a .rows .now) (a .marks .now) (a .setting .now)) in
     let p = passed g (sym (refusal-found g (number .result) (number .ensures)) ∙ test .if1 .left) in
-    finishes g (run .run .last .1 .1 .1 .0) (run .run .last .1 .1 .1 .1 .1 .1 .1 .0) (run .run .last .1 .1 .1 .1 .1 .1 .1 .1 .0) (run .run .result) (run .run .ensures (a .setting .now)) p
+    finishes g (run .run .last .1 .1 .1 .0) (run .run .last .1 .1 .1 .1 .1 .1 .1 .0) (run .run .last .1 .1 .1 .1 .1 .1 .1 .1 .0) (run .run .result) (run .run .ensures (record { entry = a .setting; exit = a .setting })) p
 
 same-length-2 : tie.Need-same-length-2
 same-length-2 c = search needs
@@ -74,12 +75,14 @@ returns-2 c =
     let test = run .before .before .before .before .before .before .before .before in
     let number = test .before .first-refusal in
     let a = test .before .before .before .before .before .before .before .before .before .before .before .args in
-    let g : Given = given (a .table .now) (a .output) (a .limits) (a .pairs .now) (a .look .now) (a .diagrams .now) (a .stages .now) (a .rows .now) (a .marks .now) (a .setting .now) in
-    let h = sym (refusal-found g (number .result) (number .ensures)) ∙ test .if1 .left in (
-      finished g (run .run .last .1 .1 .1 .0) (run .run .last .1 .1 .1 .1 .1 .1 .1 .0) (run .run .last .1 .1 .1 .1 .1 .1 .1 .1 .0) (run .run .result) (run .run .ensures (a .setting .now)) h
-          (end .finish .result) (end .finish .last .0) (end .finish .last .1 .1 .1 .1 .1 .0) (end .finish .ensures .0) (end .finish .ensures .1 .0) (end .finish .ensures .1 .1),
-      λ n. absurd (n h),
-    )
+    let g : Given = given (a .output) (a .limits) (holding (a .table .now) (a .pairs .now) (a .look .now) (a .diagrams .now) (a .stages .now) (a .rows .now) (a .marks .now) (a .setting .now)) in
+    let h = sym (refusal-found g (number .result) (number .ensures)) ∙ test .if1 .left in
+    record {
+      result =
+          finished g (run .run .last .1 .1 .1 .0) (run .run .last .1 .1 .1 .1 .1 .1 .1 .0) (run .run .last .1 .1 .1 .1 .1 .1 .1 .1 .0) (run .run .result) (run .run .ensures (record { entry = a .setting; exit = a .setting })) h
+          (end .finish .result) (end .finish .last .0) (end .finish .last .1 .1 .1 .1 .1 .0) (end .finish .ensures .0) (end .finish .ensures .1 .0) (end .finish .ensures .1 .1);
+      kept = λ n. absurd (n h);
+    }
 
 pub compare-spec : {M : Type 1} → statement M
 compare-spec =

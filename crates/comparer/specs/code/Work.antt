@@ -4,12 +4,14 @@ use Rattle.bdd.specs.code.Store.{Store}
 use Rattle.compare_model.specs.Compare.{Given, answerTo, maxRows, maxSteps, overFront, problemOf}
 use Rattle.compare_model.specs.declared.Limits.{Limits as Asked}
 use Rattle.compare_parts.specs.code.Code.{limitsOf}
+use Rattle.comparer.specs.Lent.{Slices, given}
 use Rattle.sweep_parts.specs.code.Ending.{Refers, verdictOf}
 use Rattle.sweep_parts.specs.code.Words.{posed}
 use Rattle.sweep_parts.specs.declared.end.Ended.{Ended}
 use Rattle.sweep_parts.specs.declared.task.Task.{Task}
 use Rattle.table.specs.Accepted.{Accepted}
 use Rattle.table.specs.Table.{functionsOf, graphOf, inputsOf, verticesOf}
+use denote.Triple.Both.{Both}
 use lib.ListN.{length, take}
 use mathlib.Core.List.{List}
 use mathlib.Core.Path.{_≡_}
@@ -35,6 +37,10 @@ pub record SweepRan (g : Given) (pairs rows marks : List ℕ) (e : Ended) : Type
   pub refers : Refers rows (e .used) (inputsOf (g .table)) (e .end)
   pub within : e .used ≤ maxRows
   pub counted : e .steps ≤ maxSteps
+
+-- The same, by the slices of the comparison.
+abbrev pub Swept : ℕ → Asked → Both Slices Slices → Ended → Type 0
+Swept output limits s e = SweepRan (given output limits (s .entry)) (s .exit .pairs) (s .exit .rows) (s .exit .marks) e
 
 -- What finishing needs.
 pub record Finishes (table pairs rows : List ℕ) (limit : ℕ) (e : Ended) (setting : ℕ) : Type 0 where

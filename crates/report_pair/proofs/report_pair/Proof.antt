@@ -1,7 +1,7 @@
 -- The slices that are too short, then the load, decide; no loop.
 -- Each return is a case of the report.
 use Rattle.compare_model.specs.Compare.{CompareRoom}
-use Rattle.load.specs.Lent.{working}
+use Rattle.comparer.specs.Lent.{holding}
 use Rattle.load_model.specs.Load.{answerOf}
 use Rattle.report_model.proofs.ReportLaws.{long-enough, report-short, works-accepted}
 use Rattle.report_model.specs.Report.{Lent, loadRoom, programLimits, short?}
@@ -9,7 +9,7 @@ use Rattle.report_pair.proofs.ComparedLaws.{same-room}
 use Rattle.report_pair.proofs.ReportLaws.{accepted-report, front-stored, refused-report, refused-unchanged, table-ready}
 use Rattle.report_pair.proofs.report_pair.Statement.{statement}
 use Rattle.report_pair.proofs.report_pair.Tie as tie
-use Rattle.report_pair.specs.code.Slices.{lent}
+use Rattle.report_pair.specs.Lent.{lent}
 use Rattle.truth.proofs.Booleans.{clash}
 use borrow.Author.Needs.{needs}
 use lib.ListN.{length}
@@ -24,9 +24,12 @@ returns : tie.Need-returns
 returns c =
     let short = c .before .is-short in
     let a = c .before .before .before .before .before .before .before .before .before .before .before .before .before .args in
-    let l : Lent = lent (a .out .now) (a .table .now) (a .pairs .now) (a .look .now) (a .diagrams .now) (a .stages .now) (a .rows .now) (a .marks .now) (a .setting .now) in (
-      sym (report-short (a .left .now) (a .right .now) l (sym (short .ensures) ∙ c .if1 .taken)),
-      (record { within = omega arith; front = refl }, λ h. record { pairs-kept = refl; look-kept = refl; diagrams-kept = refl; stages-kept = refl; rows-kept = refl }),
+    let l : Lent = lent (a .out .now) (holding (a .table .now) (a .pairs .now) (a .look .now) (a .diagrams .now) (a .stages .now) (a .rows .now) (a .marks .now) (a .setting .now)) in (
+      record {
+        result = sym (report-short (a .left .now) (a .right .now) l (sym (short .ensures) ∙ c .if1 .taken));
+        kept = λ h. record { pairs = refl; look = refl; diagrams = refl; stages = refl; rows = refl };
+      },
+      record { within = omega arith; front = refl },
     )
 
 load-requires : tie.Need-load-requires
@@ -48,7 +51,7 @@ report-table-requires c κs =
     let test = loaded .before .before .before .before .before .before in
     let load = loaded .load in
     let a = test .before .before .before .before .before .before .before .before .before .before .before .before .before .args in
-    let l : Lent = lent (a .out .now) (a .table .now) (a .pairs .now) (a .look .now) (a .diagrams .now) (a .stages .now) (a .rows .now) (a .marks .now) (a .setting .now) in
+    let l : Lent = lent (a .out .now) (holding (a .table .now) (a .pairs .now) (a .look .now) (a .diagrams .now) (a .stages .now) (a .rows .now) (a .marks .now) (a .setting .now)) in
     let long : short? l ≡ false = sym (test .before .is-short .ensures) ∙ test .if1 .left in
     let bounds = long-enough (length (a .out .now)) (length (a .rows .now)) (length (a .marks .now)) (length (a .setting .now)) long in
     (table-ready (a .left .now) (a .right .now) (loadRoom l) (answerOf (load .result)) _ (load .ensures .0) (ap answerOf (matched .enum-told .given .1)) (load .last .1 .1 .0) (a .table .now) (load .ensures .1 .0) (bounds .setting), bounds .out)
@@ -80,12 +83,16 @@ returns-2 c =
     let load = loaded .load in
     let told = ap answerOf (matched .loaded .given .1) in
     let a = test .before .before .before .before .before .before .before .before .before .before .before .before .before .args in
-    let l : Lent = lent (a .out .now) (a .table .now) (a .pairs .now) (a .look .now) (a .diagrams .now) (a .stages .now) (a .rows .now) (a .marks .now) (a .setting .now) in
+    let l : Lent = lent (a .out .now) (holding (a .table .now) (a .pairs .now) (a .look .now) (a .diagrams .now) (a .stages .now) (a .rows .now) (a .marks .now) (a .setting .now)) in
     let long : short? l ≡ false = sym (test .before .is-short .ensures) ∙ test .if1 .left in
     let bounds = long-enough (length (a .out .now)) (length (a .rows .now)) (length (a .marks .now)) (length (a .setting .now)) long in (
-      refused-report (a .left .now) (a .right .now) l long (answerOf (load .result)) (load .ensures .0) (load .last .1 .1 .0) (load .ensures .1 .0) _ _ _ told (omega (arith, bounds .out)) _ _
-          write,
-      (record { within = write .within; front = write .front }, λ h. refused-unchanged (answerOf (load .result)) told (working (a .pairs .now) (a .look .now) (a .diagrams .now) (a .stages .now)) _ (load .ensures .1 .1) (a .rows .now)),
+      record {
+        result =
+            refused-report (a .left .now) (a .right .now) l long (answerOf (load .result)) (load .ensures .0) (load .last .1 .1 .0) (load .ensures .1 .0) _ _ _ told (omega (arith, bounds .out)) _ _
+            write;
+        kept = λ h. refused-unchanged (answerOf (load .result)) told (load .ensures .1 .1) refl;
+      },
+      record { within = write .within; front = write .front },
     )
 
 same-length-7 : tie.Need-same-length-7
@@ -129,14 +136,18 @@ returns-3 c =
     let table = tabled .report-table in
     let told = ap answerOf (matched .enum-told .given .1) in
     let a = test .before .before .before .before .before .before .before .before .before .before .before .before .before .args in
-    let l : Lent = lent (a .out .now) (a .table .now) (a .pairs .now) (a .look .now) (a .diagrams .now) (a .stages .now) (a .rows .now) (a .marks .now) (a .setting .now) in
+    let l : Lent = lent (a .out .now) (holding (a .table .now) (a .pairs .now) (a .look .now) (a .diagrams .now) (a .stages .now) (a .rows .now) (a .marks .now) (a .setting .now)) in
     let long : short? l ≡ false = sym (test .before .is-short .ensures) ∙ test .if1 .left in
     let bounds = long-enough (length (a .out .now)) (length (a .rows .now)) (length (a .marks .now)) (length (a .setting .now)) long in (
-      accepted-report (a .left .now) (a .right .now) l long (answerOf (load .result)) (load .ensures .0) (load .last .1 .1 .0) (load .ensures .1 .0) _ told _ _ _ (table .result)
-          (ap (λ (r : CompareRoom). record { table = load .last .1 .1 .0; output = 0; limits = programLimits; room = r; marks = a .marks .now; setting = a .setting .now })
-          (same-room (pairs .pairs .given) (look .look .given) (diagrams .diagrams .given) (stages .stages .given) refl))
-          (table .ensures .0 .stored) (table .ensures .1),
-      (front-stored (bounds .out) (c .before .before .before .before .before .before .before .before .before .before .before .before .before .before .before .before .before .out2 .given) (table .ensures .0), λ h. clash (works-accepted (a .left .now) (a .right .now) l long _ (sym (load .ensures .0) ∙ told)) h),
+      record {
+        result =
+            accepted-report (a .left .now) (a .right .now) l long (answerOf (load .result)) (load .ensures .0) (load .last .1 .1 .0) (load .ensures .1 .0) _ told _ _ _ (table .result)
+            (ap (λ (r : CompareRoom). record { table = load .last .1 .1 .0; output = 0; limits = programLimits; room = r; marks = a .marks .now; setting = a .setting .now })
+            (same-room (pairs .pairs .given) (look .look .given) (diagrams .diagrams .given) (stages .stages .given) refl))
+            (table .ensures .0 .stored) (table .ensures .1);
+        kept = λ h. clash (works-accepted (a .left .now) (a .right .now) l long _ (sym (load .ensures .0) ∙ told)) h;
+      },
+      front-stored (bounds .out) (c .before .before .before .before .before .before .before .before .before .before .before .before .before .before .before .before .before .out2 .given) (table .ensures .0),
     )
 
 pub report-pair-spec : {M : Type 1} → statement M

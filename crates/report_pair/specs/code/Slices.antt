@@ -1,41 +1,41 @@
--- What the lent slices stand for.
+-- What the slices of a comparison with the program's limits stand for.
 use Prim.Native.Nat.{_≤_, ℕ}
 use Rattle.compare_model.specs.Compare.{Given}
-use Rattle.compare_parts.specs.code.Code.{roomOfLists}
-use Rattle.report_model.specs.Report.{Lent, Report, programLimits}
+use Rattle.comparer.specs.Lent.{Slices, roomIn}
+use Rattle.report.specs.Report.{headLine}
+use Rattle.report_model.specs.Report.{after, comparisons, linesOf, programLimits}
 use Rattle.table.specs.Accepted.{Accepted}
 use Rattle.table.specs.Limits.{maxInputs}
-use lib.ListN.{length, take}
-use mathlib.Core.List.{List}
+use Rattle.table.specs.Table.{outputsOf}
+use denote.Triple.Both.{Both}
+use mathlib.Core.List.{List, _++_}
 use mathlib.Core.Path.{_≡_}
 
--- The slices of the call, by the lists that they hold.
-abbrev pub lent : List ℕ → List ℕ → List ℕ → List ℕ → List ℕ → List ℕ → List ℕ → List ℕ → List ℕ → Lent
-lent out table pairs look diagrams stages rows marks setting =
-    record { out = out; table = table; room = roomOfLists pairs look diagrams stages rows; marks = marks; setting = setting }
-
--- What it gives back, and what four of its slices then hold.
-abbrev pub reportLeft : ℕ → List ℕ → List ℕ → List ℕ → List ℕ → Report
-reportLeft count out table marks setting = record { count = count; out = out; table = table; marks = marks; setting = setting }
-
 -- A comparison with the program's limits, by the lists that its slices hold.
-abbrev pub asked : List ℕ → ℕ → List ℕ → List ℕ → List ℕ → List ℕ → List ℕ → List ℕ → List ℕ → Given
-asked table output pairs look diagrams stages rows marks setting =
+abbrev pub asked : ℕ → Slices → Given
+asked output s =
     record {
-      table = table;
+      table = s .table;
       output = output;
       limits = programLimits;
-      room = roomOfLists pairs look diagrams stages rows;
-      marks = marks;
-      setting = setting;
+      room = roomIn s;
+      marks = s .marks;
+      setting = s .setting;
     }
+
+-- The lines of the first n outputs.
+abbrev pub firstLines : ℕ → Slices → List ℕ
+firstLines n s = linesOf (comparisons n (asked 0 s))
+
+-- The head line and the lines of all outputs.
+abbrev pub tableLines : Slices → List ℕ
+tableLines s = headLine ++ firstLines (outputsOf (s .table)) s
+
+-- The slices are left as the comparisons of the first n outputs leave them.
+abbrev pub LeftAfter : ℕ → Both Slices Slices → Type 0
+LeftAfter n s = asked n (s .exit) ≡ after n (asked 0 (s .entry))
 
 -- A table that comparisons are made of, and a setting slice that is long enough for it.
 pub record Ready (table : List ℕ) (setting : ℕ) : Type 0 where
   pub accepted : Accepted table
   pub room : maxInputs ≤ setting
-
--- The report is within its slice, said in both ways that a caller who takes it from there needs.
-pub record Front (count : ℕ) (out : List ℕ) : Type 0 where
-  pub within : count ≤ length out
-  pub front : count ≡ length (take count out)

@@ -88,7 +88,7 @@ returns c setting =
     let after : Workspace = workspace (l .0) (arrays (l .1 .1 .0) (l .1 .1 .1 .0) (l .1 .1 .1 .1 .0) (l .1 .1 .1 .1 .1 .0)) in
     ran (a .table .now) (a .output) (a .limits) (start .pre .0) (start .pre .1 .0) (start .pre .1 .1 .0) (made .task-of .result) (made .task-of .ensures)
     (a .pairs .now) (copy .copy-in .last .1 .0) (copy .copy-in .ensures) (a .pairs .now) (a .look .now) (a .diagrams .now) (a .stages .now) (a .rows .now) (a .marks .now)
-    (start .pre .1 .1 .1) setting after (ended .sweep .result) (ended .sweep .ensures) (ended .sweep .kept .1 .1 .1 .1 .1 .0)
+    (start .pre .1 .1 .1) (setting .entry .now) after (ended .sweep .result) (ended .sweep .ensures) (ended .sweep .kept .1 .1 .1 .1 .1 .0)
 
 pub run-spec : {M : Type 1} → statement M
 run-spec =

@@ -1,6 +1,7 @@
 -- A comparison, and its line; no loop.
 -- What the comparison left is what the next one is given, and the line of its reply is its line.
 use Rattle.compare_model.specs.Compare.{Given}
+use Rattle.comparer.specs.Lent.{holding}
 use Rattle.report_pair.proofs.ComparedLaws.{compared-next, compared-stored, same-room}
 use Rattle.report_pair.proofs.lines.report_output.Statement.{statement}
 use Rattle.report_pair.proofs.lines.report_output.Tie as tie
@@ -85,14 +86,14 @@ returns c =
     let start = made .before .before .before .before .before .before .before .before .before .before .before .before .before .before .before .before .before .before .before in
     let call = made .compare in
     let a = start .args in
-    let g : Given = asked (a .table .now) (a .output) (a .pairs .now) (a .look .now) (a .diagrams .now) (a .stages .now) (a .rows .now) (a .marks .now) (a .setting .now) in
+    let g : Given = asked (a .output) (holding (a .table .now) (a .pairs .now) (a .look .now) (a .diagrams .now) (a .stages .now) (a .rows .now) (a .marks .now) (a .setting .now)) in
     let within = start .pre .0 .accepted .formed .inputs in
     let table-left = call .last .0 in
     let marks-left = call .last .1 .1 .1 .1 .1 .1 .1 .1 .0 in
     let setting-left = call .last .1 .1 .1 .1 .1 .1 .1 .1 .1 .0 in (
-      compared-stored g (call .result) table-left marks-left setting-left (call .ensures .0) within (omega (arith, within, start .pre .0 .room, setting .setting .given))
+      compared-stored g (call .result) table-left marks-left setting-left (call .ensures .result) within (omega (arith, within, start .pre .0 .room, setting .setting .given))
           (c .before .before .put-line .ensures),
-      compared-next g (call .result) table-left marks-left setting-left (call .ensures .0) _
+      compared-next g (call .result) table-left marks-left setting-left (call .ensures .result) _
           (same-room (pairs .pairs .given) (look .look .given) (diagrams .diagrams .given) (stages .stages .given) (rows .rows .given)),
     )
 

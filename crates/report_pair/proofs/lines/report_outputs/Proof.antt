@@ -2,6 +2,7 @@
 -- The measure is how many outputs are left.
 use Prim.Native.Nat.{_-_, _≤_}
 use Rattle.compare_model.specs.Compare.{CompareRoom}
+use Rattle.comparer.specs.Lent.{holding}
 use Rattle.report_pair.proofs.ComparedLaws.{same-room}
 use Rattle.report_pair.proofs.PrintingLaws.{Printing, here-ready, line-room, printing-end, printing-length, printing-more, printing-none}
 use Rattle.report_pair.proofs.lines.report_outputs.Statement.{statement}
@@ -12,7 +13,7 @@ use native.Mathlib.Omega.{arith}
 
 abbrev Inv-loop : tie.InvT-loop
 Inv-loop out₀ start outputs table₀ pairs₀ look₀ diagrams₀ stages₀ rows₀ marks₀ setting₀ at₀ output₀ out table pairs look diagrams stages rows marks setting at output =
-    Printing (asked table₀ 0 pairs₀ look₀ diagrams₀ stages₀ rows₀ marks₀ setting₀) (asked table output pairs look diagrams stages rows marks setting) out₀ start out at × (output ≤ outputs)
+    Printing (asked 0 (holding table₀ pairs₀ look₀ diagrams₀ stages₀ rows₀ marks₀ setting₀)) (asked output (holding table pairs look diagrams stages rows marks setting)) out₀ start out at × (output ≤ outputs)
 
 abbrev μ-loop : tie.MeasureT-loop
 μ-loop out₀ start outputs table₀ pairs₀ look₀ diagrams₀ stages₀ rows₀ marks₀ setting₀ at₀ output₀ out table pairs look diagrams stages rows marks setting at output =
