@@ -5,8 +5,6 @@ use libc::STDOUT_FILENO;
 // A byte more than a file may have, so that a longer one is seen to be too long.
 const FILE_ROOM: usize = netlist::MAX_BYTES + 1;
 
-const WORKING_ROOM: usize = 2 * load_graph::MAX_VERTICES;
-
 const SETTING_ROOM: usize = table::MAX_INPUTS as usize;
 
 fn main() {
@@ -20,12 +18,12 @@ fn main() {
 fn print_report(left: &[u8], right: &[u8]) {
     let mut out = [0u8; report_model::REPORT_ROOM];
     let mut table = [0u32; load::MAX_TABLE];
-    let mut pairs = [0u32; WORKING_ROOM];
-    let mut look = [0u32; WORKING_ROOM];
-    let mut diagrams = [0u32; WORKING_ROOM];
-    let mut stages = [0u32; WORKING_ROOM];
+    let mut pairs = [0u32; load::WORKING_ROOM];
+    let mut look = [0u32; load::WORKING_ROOM];
+    let mut diagrams = [0u32; load::WORKING_ROOM];
+    let mut stages = [0u32; load::WORKING_ROOM];
     let mut rows = [0u32; report_model::ROWS_ROOM];
-    let mut marks = [0u8; load_graph::MAX_VERTICES];
+    let mut marks = [0u8; load::MAX_VERTICES];
     let mut setting = [0u8; SETTING_ROOM];
     let end = report_pair::report_pair(
         left,

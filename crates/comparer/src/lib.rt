@@ -2,10 +2,12 @@
 mod task;
 mod work;
 
-use compare_model::Limits;
+pub use compare_model::Limits;
 use compare_parts::refusal;
 use compare_parts::refusal::Lengths;
-use sweep_model::Reply;
+pub use sweep_model::Cause;
+pub use sweep_model::Counts;
+pub use sweep_model::Reply;
 ghost use Rattle.comparer.specs.Lent.{Compared, slices};
 
 // Compares output number `output` of the two sides of a table. The reply is one of:

@@ -102,14 +102,14 @@ fn decide_pair(
 fn is_short(pairs: usize, look: usize, literals: usize, outputs: usize) -> bool
     ensures { λ r. ⌜ r ≡ shortSlice? (roomOf 0 pairs look literals outputs) ⌝ }
 {
-    if pairs < 2 * load_graph::MAX_VERTICES {
+    if pairs < crate::WORKING_ROOM {
         return true;
     }
-    if look < 2 * load_graph::MAX_VERTICES {
+    if look < crate::WORKING_ROOM {
         return true;
     }
-    if literals < 2 * load_graph::MAX_VERTICES {
+    if literals < crate::WORKING_ROOM {
         return true;
     }
-    outputs < 2 * load_graph::MAX_VERTICES
+    outputs < crate::WORKING_ROOM
 }

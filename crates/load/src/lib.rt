@@ -1,6 +1,5 @@
 // Loading: two drawing files into one table.
 use crate::decision::Decision;
-use load_model::Loaded;
 ghost use Rattle.load_model.specs.Load.{answerOf, loadResult, tableAfter};
 ghost use Rattle.load.specs.Lent.{Kept, roomIn, working};
 ghost use Rattle.netlist.specs.Check.{readNetlist};
@@ -11,10 +10,17 @@ mod file;
 mod layout;
 mod pair;
 
+pub use load_graph::MAX_VERTICES;
+pub use load_model::Loaded;
+pub use load_model::Tally;
+
 // The words that every table fits in: a header, a row for each AND, and the outputs of both sides.
 pub const MAX_TABLE: usize = table::HEADER
     + 2 * table::MAX_ANDS as usize
     + 2 * table::MAX_OUTPUTS as usize;
+
+// The words that each working slice needs: two for each vertex.
+pub const WORKING_ROOM: usize = 2 * MAX_VERTICES;
 
 // Loads two files into the table. The working slices may hold anything; a refusal leaves every lent slice unchanged.
 pub fn load(

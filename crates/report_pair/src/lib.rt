@@ -2,7 +2,7 @@
 mod lines;
 
 use crate::lines::report_table;
-use load_model::Loaded;
+use load::Loaded;
 use report_model::REPORT_ROOM;
 use report_model::ROWS_ROOM;
 ghost use Rattle.comparer.specs.Lent.{slices};
@@ -58,7 +58,7 @@ fn is_short(out: usize, rows: usize, marks: usize, setting: usize) -> bool
     if rows < ROWS_ROOM {
         return true;
     }
-    if marks < load_graph::MAX_VERTICES {
+    if marks < load::MAX_VERTICES {
         return true;
     }
     setting < table::MAX_INPUTS as usize

@@ -1,9 +1,9 @@
 // The lines of a loaded table.
-use compare_model::Limits;
+use comparer::Limits;
+use comparer::Reply;
 use report_model::ROW_LIMIT;
 use report_model::SIZE_LIMIT;
 use report_model::STEP_LIMIT;
-use sweep_model::Reply;
 ghost use Prim.Native.Nat.{_*_, _+_, _≤_};
 ghost use Rattle.compare_model.specs.Said.{saidOf};
 ghost use Rattle.comparer.specs.Lent.{slices};
@@ -33,7 +33,7 @@ pub fn report_table(
     ensures { λ _. ⌜ LeftAfter (outputsOf (now (table .entry))) (slices table pairs look diagrams stages rows marks setting) ⌝ }
 {
     let start = report::write_head(out);
-    let outputs = table[2];
+    let outputs = table::outputs(&table[..]);
     report_outputs(
         out,
         start,
@@ -115,7 +115,7 @@ fn report_output(
         rows: ROW_LIMIT,
         steps: STEP_LIMIT,
     };
-    let inputs = table[0] as usize;
+    let inputs = table::inputs(&table[..]) as usize;
     let reply = comparer::compare(
         table,
         output,

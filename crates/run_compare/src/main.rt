@@ -2,14 +2,14 @@
 // refusal's number and whether a lent slice changed.
 // The fields of a case: its name; the words at the table's front; the output; the size limit; the row limit; two numbers whose sum is the
 // step limit; the lengths lent of table, pairs, look, diagrams, stages, rows, marks and setting.
-use compare_model::Limits;
+use comparer::Cause;
+use comparer::Limits;
+use comparer::Reply;
 use libc::STDOUT_FILENO;
 use run_card_file::field;
 use run_card_file::number;
 use run_card_file::number_at;
 use run_card_file::number_count;
-use sweep_model::Cause;
-use sweep_model::Reply;
 ghost use Prim.Native.Nat.{_≤_};
 ghost use lib.ListN.{length};
 ghost use mathlib.Core.Path.{_≡_};

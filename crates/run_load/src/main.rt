@@ -1,7 +1,7 @@
 // load on the pairs of `pairs.txt`, on files that are too long and on the largest pair: the bench's pairs, and each refusal alone and with the next in the order of tests.
 // Two lines for each: what the pair is, and what came; then the table's first words.
 use libc::STDOUT_FILENO;
-use load_model::Loaded;
+use load::Loaded;
 use run_card_file::field;
 use run_card_file::number;
 ghost use Prim.Native.Nat.{_≤_};

@@ -6,14 +6,13 @@ use Rattle.report_pair.proofs.ComparedLaws.{compared-next, compared-sto
 use Rattle.report_pair.proofs.lines.report_output.Statement.{statement}
 use Rattle.report_pair.proofs.lines.report_output.Tie as tie
 use Rattle.report_pair.specs.code.Slices.{asked}
-use Rattle.table.specs.Table.{inputsOf}
 use borrow.Author.Needs.{needs}
 use lib.Seq.{length-take-le}
 use mathlib.Core.Path.{sym}
 use native.Mathlib.Omega.{arith}
 
-slice-read-inputs : tie.Need-slice-read-inputs
-slice-read-inputs c = search needs
+inputs-requires : tie.Need-inputs-requires
+inputs-requires c κs = search needs
 
 cast-inputs : tie.Need-cast-inputs
 cast-inputs c = search needs
@@ -24,28 +23,31 @@ compare-requires c κs = search needs
 slice-reshare-prefix-put-line : tie.Need-slice-reshare-prefix-put-line
 slice-reshare-prefix-put-line c =
     let setting = c .before .before in
-    let start = setting .before .before .before .before .before .before .before .before .before .before .before .before .before .before .before .before .before .before .before .before .before .before .before .before .before .before .before .before .before .before .before .before .before .before in
-    omega (arith, start .pre .0 .accepted .formed .inputs, start .pre .0 .room, setting .setting .given)
+    let inputs = setting .before .before .before .before .before .before .before .before .before .before .before .before .before .before .before .before .before .before .before .before .before .before .before .before in
+    let start = inputs .before .before .before .before .before .before .before .before .before .before .before in
+    omega (arith, inputs .inputs .ensures, start .pre .0 .accepted .formed .inputs, start .pre .0 .room, setting .setting .given)
 
 slice-aggregate-put-line : tie.Need-slice-aggregate-put-line
 slice-aggregate-put-line c =
     let setting = c .before .before .before in
     let call = setting .before .before .before .before .before .before .before .before .before .before .before .before .before .before .before in
-    let start = call .before .before .before .before .before .before .before .before .before .before .before .before .before .before .before .before .before .before .before in
+    let inputs = call .before .before .before .before .before .before .before .before .before .inputs in
+    let start = call .before .before .before .before .before .before .before .before .before .before .before .before .before .before .before .before .before .before .before .before in
     sym
-    (length-take-le (inputsOf (start .args .table .now)) (call .compare .last .1 .1 .1 .1 .1 .1 .1 .1 .1 .0)
-    (omega (arith, start .pre .0 .accepted .formed .inputs, start .pre .0 .room, setting .setting .given)))
+    (length-take-le (inputs .result) (call .compare .last .1 .1 .1 .1 .1 .1 .1 .1 .1 .0)
+    (omega (arith, inputs .ensures, start .pre .0 .accepted .formed .inputs, start .pre .0 .room, setting .setting .given)))
 
 put-line-requires : tie.Need-put-line-requires
 put-line-requires c κs =
     let setting = c .before .before .before in
     let call = setting .before .before .before .before .before .before .before .before .before .before .before .before .before .before .before in
-    let start = call .before .before .before .before .before .before .before .before .before .before .before .before .before .before .before .before .before .before .before in
+    let inputs = call .before .before .before .before .before .before .before .before .before .inputs in
+    let start = call .before .before .before .before .before .before .before .before .before .before .before .before .before .before .before .before .before .before .before .before in
     let within = start .pre .0 .accepted .formed .inputs in
     let front =
-    length-take-le (inputsOf (start .args .table .now)) (call .compare .last .1 .1 .1 .1 .1 .1 .1 .1 .1 .0)
-    (omega (arith, within, start .pre .0 .room, setting .setting .given)) in
-    omega (arith, front, within, start .pre .1)
+    length-take-le (inputs .result) (call .compare .last .1 .1 .1 .1 .1 .1 .1 .1 .1 .0)
+    (omega (arith, inputs .ensures, within, start .pre .0 .room, setting .setting .given)) in
+    omega (arith, inputs .ensures, front, within, start .pre .1)
 
 same-length : tie.Need-same-length
 same-length c = search needs
@@ -83,7 +85,8 @@ returns c =
     let look = diagrams .before .before in
     let pairs = look .before .before in
     let made = pairs .before .before .before in
-    let start = made .before .before .before .before .before .before .before .before .before .before .before .before .before .before .before .before .before .before .before in
+    let inputs = made .before .before .before .before .before .before .before .before .before .inputs in
+    let start = made .before .before .before .before .before .before .before .before .before .before .before .before .before .before .before .before .before .before .before .before in
     let call = made .compare in
     let a = start .args in
     let g : Given = asked (a .output) (holding (a .table .now) (a .pairs .now) (a .look .now) (a .diagrams .now) (a .stages .now) (a .rows .now) (a .marks .now) (a .setting .now)) in
@@ -92,7 +95,7 @@ returns c =
     let marks-left = call .last .1 .1 .1 .1 .1 .1 .1 .1 .0 in
     let setting-left = call .last .1 .1 .1 .1 .1 .1 .1 .1 .1 .0 in (
       compared-stored g (call .result) table-left marks-left setting-left (call .ensures .result) within (omega (arith, within, start .pre .0 .room, setting .setting .given))
-          (c .before .before .put-line .ensures),
+          (rw (inputs .ensures) at (c .before .before .put-line .ensures)),
       compared-next g (call .result) table-left marks-left setting-left (call .ensures .result) _
           (same-room (pairs .pairs .given) (look .look .given) (diagrams .diagrams .given) (stages .stages .given) (rows .rows .given)),
     )
@@ -101,7 +104,7 @@ pub report-output-spec : {M : Type 1} → statement M
 report-output-spec =
     tie.close
     (tie.spec
-    slice-read-inputs
+    inputs-requires
     cast-inputs
     compare-requires
     slice-reshare-prefix-put-line

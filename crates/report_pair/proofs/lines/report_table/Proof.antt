@@ -5,21 +5,23 @@ use Rattle.report_pair.proofs.lines.report_table.Statement.{statement}
 use Rattle.report_pair.proofs.lines.report_table.Tie as tie
 use Rattle.table.specs.Table.{outputsOf}
 use borrow.Author.Needs.{needs}
-use mathlib.Core.Path.{refl}
 use native.Mathlib.Omega.{arith}
 
 write-head-requires : tie.Need-write-head-requires
 write-head-requires c κs = search needs
 
-slice-read-outputs : tie.Need-slice-read-outputs
-slice-read-outputs c = search needs
+outputs-requires : tie.Need-outputs-requires
+outputs-requires c κs = search needs
 
 report-outputs-requires : tie.Need-report-outputs-requires
 report-outputs-requires c κs =
-    let start = c .before .before .before .before .before .before .before .before .before .before .before .before .before .before .before .before .before .before .before .before .before .before .before in
-    let head = head-stored (start .pre .1) (c .before .before .before .before .before .before .before .before .before .before .before .before .write-head .ensures) in
+    let outputs = c .before .before .before .before .before .before .before .before .before in
+    let head-line = outputs .before .before .before .before in
+    let start = head-line .before .before .before .before .before .before .before .before .before .before .before in
+    let head = head-stored (start .pre .1) (head-line .write-head .ensures) in
     let formed = start .pre .0 .accepted .formed in
-    (start .pre .0, (refl, omega (arith, head .stored .place, head .short, c .before .before .before .before .before .before .before .before .before .before .before .out .given, formed .outputs, start .pre .1)))
+    let count = outputs .outputs .ensures in
+    (start .pre .0, (count, omega (arith, count, head .stored .place, head .short, outputs .before .before .before .out .given, formed .outputs, start .pre .1)))
 
 same-length : tie.Need-same-length
 same-length c = search needs
@@ -50,9 +52,12 @@ same-length-9 c = search needs
 
 returns : tie.Need-returns
 returns c =
-    let start = c .before .before .before .before .before .before .before .before .before .before .before .before .before .before .before .before .before .before .before .before .before .before .before .before .before .before .before .before .before .before .before .before .before .before .before .before .before .before .before .before .before .before in
-    let head = head-stored (start .pre .1) (c .before .before .before .before .before .before .before .before .before .before .before .before .before .before .before .before .before .before .before .before .before .before .before .before .before .before .before .before .before .before .before .write-head .ensures) in
-    let lines = c .before .before .before .before .before .before .before .before .before .before .before .before .before .before .before .before .before .before .report-outputs .ensures in
+    let all = c .before .before .before .before .before .before .before .before .before .before .before .before .before .before .before .before .before .before in
+    let outputs = all .before .before .before .before .before .before .before .before .before .before in
+    let head-line = outputs .before .before .before .before in
+    let start = head-line .before .before .before .before .before .before .before .before .before .before .before in
+    let head = head-stored (start .pre .1) (head-line .write-head .ensures) in
+    let lines = rw (outputs .outputs .ensures) at (all .report-outputs .ensures) in
     (head-and-lines (outputsOf (start .args .table .now)) (start .pre .1) (start .pre .0 .accepted .formed .outputs) head (lines .0), lines .1)
 
 pub report-table-spec : {M : Type 1} → statement M
@@ -60,7 +65,7 @@ report-table-spec =
     tie.close
     (tie.spec
     write-head-requires
-    slice-read-outputs
+    outputs-requires
     report-outputs-requires
     same-length
     same-length-2
