@@ -7,8 +7,8 @@ use sweep_start::start::start;
 use sweep_turn::turn::go;
 use sweep_turn::visit::Going;
 ghost use Prim.Native.Nat.{_*_, _≤_};
-ghost use Rattle.sweep_parts.specs.code.Meet.{workspace};
 ghost use Rattle.sweep_parts.specs.code.Arrays.{arrays};
+ghost use Rattle.sweep_parts.specs.code.Meet.{workspace, workspaces};
 ghost use Rattle.sweep_start.specs.code.Start.{SweepAsked};
 ghost use Rattle.sweep_turn.specs.code.Turn.{RestIn};
 ghost use Rattle.sweep.specs.code.Sweep.{Rests, Sweeps};
@@ -28,7 +28,7 @@ fn finish(
 ) -> Ended
     requires rest { ⌜ RestIn task used steps (workspace (now pairs) (arrays (now diagrams) (now stages) (now rows) (now marks))) ⌝ }
     requires long { ⌜ 2 * task .count ≤ length (now places) ⌝ }
-    ensures { λ r. ⌜ Rests task used steps (workspace (now (pairs .entry)) (arrays (now (diagrams .entry)) (now (stages .entry)) (now (rows .entry)) (now (marks .entry)))) (workspace (now (pairs .exit)) (arrays (now (diagrams .exit)) (now (stages .exit)) (now (rows .exit)) (now (marks .exit)))) r ⌝ }
+    ensures { λ r. ⌜ Rests task used steps (workspaces pairs diagrams stages rows marks .entry) (workspaces pairs diagrams stages rows marks .exit) r ⌝ }
 {
     let going = go(
         pairs,
@@ -62,7 +62,7 @@ pub fn sweep(
     task: Task,
 ) -> Ended
     requires { ⌜ SweepAsked task (now places) (workspace (now pairs) (arrays (now diagrams) (now stages) (now rows) (now marks))) ⌝ }
-    ensures { λ r. ⌜ Sweeps task (workspace (now (pairs .entry)) (arrays (now (diagrams .entry)) (now (stages .entry)) (now (rows .entry)) (now (marks .entry)))) (workspace (now (pairs .exit)) (arrays (now (diagrams .exit)) (now (stages .exit)) (now (rows .exit)) (now (marks .exit)))) r ⌝ }
+    ensures { λ r. ⌜ Sweeps task (workspaces pairs diagrams stages rows marks .entry) (workspaces pairs diagrams stages rows marks .exit) r ⌝ }
 {
     let started = start(pairs, places, diagrams, stages, rows, marks, task);
     match started {

@@ -16,7 +16,7 @@ ghost use Rattle.aig.specs.Lookup.{firstWord};
 ghost use Rattle.bdd.specs.code.Owners.{withOwner};
 ghost use Rattle.bdd.specs.code.Rows.{RADIX};
 ghost use Rattle.sweep_graph.specs.code.Graph.{Graph};
-ghost use Rattle.sweep_graph.specs.code.Takes.{Handing, TakesRoom, handedOver, held, takeWords, takenDiagrams, takesWords, wakeWords};
+ghost use Rattle.sweep_graph.specs.code.Takes.{Handing, TakesRoom, handedOver, held, helds, takeWords, takenDiagrams, takesWords, wakeWords};
 ghost use lib.ListN.{length};
 ghost use mathlib.Core.Path.{_≡_};
 
@@ -62,7 +62,7 @@ fn give_diagram(stages: &[u32], diagrams: &mut [u32], v: u32, x: Literal)
 // Vertex v, merged into x, hands over to x's vertex: the diagram and its row, if it has one, and the turn to wait, if either has.
 fn hand_over(stages: &mut [u32], diagrams: &mut [u32], rows: &mut [u32], v: u32, x: Literal)
     requires { ⌜ Handing v (x .0) (held (now stages) (now diagrams) (now rows)) ⌝ }
-    ensures { λ _. ⌜ held (now (stages .exit)) (now (diagrams .exit)) (now (rows .exit)) ≡ handedOver v (x .0) (held (now (stages .entry)) (now (diagrams .entry)) (now (rows .entry))) ⌝ }
+    ensures { λ _. ⌜ helds stages diagrams rows .exit ≡ handedOver v (x .0) (helds stages diagrams rows .entry) ⌝ }
 {
     let w = x.vertex();
     if has_diagram(first_word(&stages[..], v)) {
@@ -80,7 +80,7 @@ fn hand_over(stages: &mut [u32], diagrams: &mut [u32], rows: &mut [u32], v: u32,
 pub fn take_at(pairs: &[u32], stages: &mut [u32], diagrams: &mut [u32], rows: &mut [u32], v: u32)
     requires row { ⌜ 2 * v + 1 < length (now pairs) ⌝ }
     requires room { ⌜ Handing v (firstWord (now pairs) v) (held (now stages) (now diagrams) (now rows)) ⌝ }
-    ensures { λ _. ⌜ held (now (stages .exit)) (now (diagrams .exit)) (now (rows .exit)) ≡ takeWords (now (pairs .entry)) v (held (now (stages .entry)) (now (diagrams .entry)) (now (rows .entry))) ⌝ }
+    ensures { λ _. ⌜ helds stages diagrams rows .exit ≡ takeWords (now (pairs .entry)) v (helds stages diagrams rows .entry) ⌝ }
 {
     let x = first_word(pairs, v);
     if x == second_word(pairs, v) {
@@ -103,7 +103,7 @@ pub fn takes(
 )
     requires graph { ⌜ Graph first count (now pairs) ⌝ }
     requires room { ⌜ TakesRoom count (held (now stages) (now diagrams) (now rows)) ⌝ }
-    ensures { λ _. ⌜ held (now (stages .exit)) (now (diagrams .exit)) (now (rows .exit)) ≡ takesWords (now (pairs .entry)) first (count - first) (held (now (stages .entry)) (now (diagrams .entry)) (now (rows .entry))) ⌝ }
+    ensures { λ _. ⌜ helds stages diagrams rows .exit ≡ takesWords (now (pairs .entry)) first (count - first) (helds stages diagrams rows .entry) ⌝ }
 {
     let mut v = first;
     while v < count {

@@ -5,7 +5,7 @@ use sweep_graph::take::own_row;
 use sweep_graph::words::set_words;
 ghost use Prim.Native.Nat.{_*_, _+_, _/_, _<_, _≤_};
 ghost use Rattle.bdd.specs.code.Rows.{RADIX};
-ghost use Rattle.sweep_parts.specs.code.Arrays.{arrays, drawnAt};
+ghost use Rattle.sweep_parts.specs.code.Arrays.{arraysOf, drawnAt};
 ghost use lib.ListN.{length};
 ghost use mathlib.Core.Path.{_≡_};
 
@@ -21,7 +21,7 @@ pub fn draw(
 )
     requires words { ⌜ (2 * v + 1 < length (now diagrams)) × ((2 * v < length (now stages)) × (v < length (now marks))) ⌝ }
     requires row { ⌜ (reference / 2 * 4 ≤ length (now rows)) × (v < RADIX) ⌝ }
-    ensures { λ _. ⌜ arrays (now (diagrams .exit)) (now (stages .exit)) (now (rows .exit)) (now (marks .exit)) ≡ drawnAt v reference size (arrays (now (diagrams .entry)) (now (stages .entry)) (now (rows .entry)) (now (marks .entry))) ⌝ }
+    ensures { λ _. ⌜ arraysOf diagrams stages rows marks .exit ≡ drawnAt v reference size (arraysOf diagrams stages rows marks .entry) ⌝ }
 {
     own_row(rows, reference, v);
     set_words(diagrams, v, reference, size);

@@ -6,7 +6,7 @@ use sweep_graph::take::takes;
 use sweep_graph::words::first_word;
 use sweep_graph::words::set_words;
 ghost use Prim.Native.Nat.{_*_, _+_, _<_, _^_, max};
-ghost use Rattle.sweep_graph.specs.code.Takes.{held};
+ghost use Rattle.sweep_graph.specs.code.Takes.{held, helds};
 ghost use Rattle.sweep_parts.specs.code.Meet.{MergeAsked, handedIn, inverse?, joined, mergedPairs};
 ghost use lib.ListN.{length};
 ghost use mathlib.Core.Path.{_≡_};
@@ -49,7 +49,7 @@ pub fn merge(
 )
     requires { ⌜ MergeAsked task v w (now pairs) (now look) (held (now stages) (now diagrams) (now rows)) ⌝ }
     ensures { λ _. ⌜ now (pairs .exit) ≡ mergedPairs task v w (now (pairs .entry)) (now (diagrams .entry)) ⌝ }
-    ensures { λ _. ⌜ held (now (stages .exit)) (now (diagrams .exit)) (now (rows .exit)) ≡ handedIn task (mergedPairs task v w (now (pairs .entry)) (now (diagrams .entry))) (held (now (stages .entry)) (now (diagrams .entry)) (now (rows .entry))) ⌝ }
+    ensures { λ _. ⌜ helds stages diagrams rows .exit ≡ handedIn task (mergedPairs task v w (now (pairs .entry)) (now (diagrams .entry))) (helds stages diagrams rows .entry) ⌝ }
 {
     let inverted = are_inverse(&diagrams[..], v, w);
     join(pairs, v, w, inverted);

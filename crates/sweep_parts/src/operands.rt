@@ -5,8 +5,7 @@ use aig::literal::Literal;
 use product::Product;
 use sweep_graph::words::first_word;
 use sweep_graph::words::second_word;
-ghost use Rattle.product.specs.Product.{Multiplies};
-ghost use Rattle.sweep_parts.specs.code.Operands.{ProductAsked, firstOperand, secondOperand};
+ghost use Rattle.sweep_parts.specs.code.Operands.{ProductAsked, ProductTaken};
 
 // The product of the functions of v's two operands.
 pub fn take_product(
@@ -19,7 +18,7 @@ pub fn take_product(
     steps: usize,
 ) -> Product
     requires { ⌜ ProductAsked task v used steps (now pairs) (now diagrams) (now rows) ⌝ }
-    ensures { λ r. ⌜ Multiplies (now (rows .entry)) (now (rows .exit)) (task .rows) used (firstOperand (now (pairs .entry)) (now (diagrams .entry)) v) (secondOperand (now (pairs .entry)) (now (diagrams .entry)) v) (task .inputs) steps (task .steps) r ⌝ }
+    ensures { λ r. ⌜ ProductTaken task v used steps (now (pairs .entry)) (now (diagrams .entry)) (now (rows .entry)) (now (rows .exit)) r ⌝ }
 {
     let f = reference_of(diagrams, Literal(first_word(pairs, v)));
     let g = reference_of(diagrams, Literal(second_word(pairs, v)));

@@ -3,7 +3,7 @@ use bdd::unique::Made;
 use bdd::unique::make;
 use sweep_parts::draw::draw;
 use sweep_parts::task::Task;
-ghost use Rattle.sweep_parts.specs.code.Arrays.{arrays};
+ghost use Rattle.sweep_parts.specs.code.Arrays.{arrays, arraysOf};
 ghost use Rattle.sweep_start.specs.code.Given.{GivesRows, HasInputContext};
 ghost use Rattle.sweep_start.specs.code.Inputs.{Gives, RowAsked};
 
@@ -24,7 +24,7 @@ fn give_row(
     used: usize,
 ) -> Given
     requires { ⌜ RowAsked task v used (arrays (now diagrams) (now stages) (now rows) (now marks)) ⌝ }
-    ensures { λ r. ⌜ Gives task v used (arrays (now (diagrams .entry)) (now (stages .entry)) (now (rows .entry)) (now (marks .entry))) (arrays (now (diagrams .exit)) (now (stages .exit)) (now (rows .exit)) (now (marks .exit))) r ⌝ }
+    ensures { λ r. ⌜ Gives task v used (arraysOf diagrams stages rows marks .entry) (arraysOf diagrams stages rows marks .exit) r ⌝ }
 {
     let made = make(rows, used, task.rows, task.inputs + 1 - v as usize, 0, 1);
     match made {
@@ -55,7 +55,7 @@ pub fn give_rows(
     used: usize,
 ) -> Inputs
     requires { ⌜ HasInputContext task (arrays (now diagrams) (now stages) (now rows) (now marks)) used ⌝ }
-    ensures { λ r. ⌜ GivesRows task (arrays (now (diagrams .entry)) (now (stages .entry)) (now (rows .entry)) (now (marks .entry))) used (arrays (now (diagrams .exit)) (now (stages .exit)) (now (rows .exit)) (now (marks .exit))) r ⌝ }
+    ensures { λ r. ⌜ GivesRows task (arraysOf diagrams stages rows marks .entry) used (arraysOf diagrams stages rows marks .exit) r ⌝ }
 {
     let first = task.first;
     let mut more = used;

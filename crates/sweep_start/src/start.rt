@@ -12,8 +12,8 @@ use sweep_parts::look::look;
 use sweep_parts::task::Task;
 use sweep_turn::visit::Going;
 use sweep_turn::visit::after_look;
-ghost use Rattle.sweep_parts.specs.code.Meet.{workspace};
-ghost use Rattle.sweep_parts.specs.code.Arrays.{arrays};
+ghost use Rattle.sweep_parts.specs.code.Arrays.{arrays, arraysOf};
+ghost use Rattle.sweep_parts.specs.code.Meet.{workspace, workspaces};
 ghost use Rattle.sweep_start.specs.code.Start.{GivesInputs, GivingIn, Prepares, Starts, SweepAsked};
 
 // No row is used, no vertex but the constant has a diagram, all marks are 0; and the rows of the graph are normalised.
@@ -27,7 +27,7 @@ fn prepare(
     task: Task,
 )
     requires { ⌜ SweepAsked task (now places) (workspace (now pairs) (arrays (now diagrams) (now stages) (now rows) (now marks))) ⌝ }
-    ensures { λ _. ⌜ Prepares task (workspace (now (pairs .entry)) (arrays (now (diagrams .entry)) (now (stages .entry)) (now (rows .entry)) (now (marks .entry)))) (workspace (now (pairs .exit)) (arrays (now (diagrams .exit)) (now (stages .exit)) (now (rows .exit)) (now (marks .exit)))) ⌝ }
+    ensures { λ _. ⌜ Prepares task (workspaces pairs diagrams stages rows marks .entry) (workspaces pairs diagrams stages rows marks .exit) ⌝ }
 {
     clear(rows, task.rows);
     begin(stages, diagrams, marks, task.count);
@@ -45,7 +45,7 @@ fn give_inputs(
     task: Task,
 ) -> Going
     requires { ⌜ GivingIn task (workspace (now pairs) (arrays (now diagrams) (now stages) (now rows) (now marks))) ⌝ }
-    ensures { λ r. ⌜ GivesInputs task (workspace (now (pairs .entry)) (arrays (now (diagrams .entry)) (now (stages .entry)) (now (rows .entry)) (now (marks .entry)))) (workspace (now (pairs .entry)) (arrays (now (diagrams .exit)) (now (stages .exit)) (now (rows .exit)) (now (marks .exit)))) r ⌝ }
+    ensures { λ r. ⌜ GivesInputs task (workspaces pairs diagrams stages rows marks .entry) (workspace (now (pairs .entry)) (arraysOf diagrams stages rows marks .exit)) r ⌝ }
 {
     let inputs = give_rows(diagrams, stages, rows, marks, task, 0);
     match inputs {
@@ -72,7 +72,7 @@ pub fn start(
     task: Task,
 ) -> Going
     requires { ⌜ SweepAsked task (now places) (workspace (now pairs) (arrays (now diagrams) (now stages) (now rows) (now marks))) ⌝ }
-    ensures { λ r. ⌜ Starts task (workspace (now (pairs .entry)) (arrays (now (diagrams .entry)) (now (stages .entry)) (now (rows .entry)) (now (marks .entry)))) (workspace (now (pairs .exit)) (arrays (now (diagrams .exit)) (now (stages .exit)) (now (rows .exit)) (now (marks .exit)))) r ⌝ }
+    ensures { λ r. ⌜ Starts task (workspaces pairs diagrams stages rows marks .entry) (workspaces pairs diagrams stages rows marks .exit) r ⌝ }
 {
     prepare(pairs, places, diagrams, stages, rows, marks, task);
     let seen = look(&pairs[..], &diagrams[..], &stages[..], task);

@@ -4,8 +4,8 @@ use sweep_parts::merge::merge;
 use sweep_parts::task::Task;
 use sweep_parts::twin::Twin;
 use sweep_parts::twin::find_twin;
-ghost use Rattle.sweep_parts.specs.code.Meet.{MeetAsked, metWorkspace, workspace};
 ghost use Rattle.sweep_parts.specs.code.Arrays.{arrays};
+ghost use Rattle.sweep_parts.specs.code.Meet.{MeetAsked, metWorkspace, workspace, workspaces};
 ghost use mathlib.Core.Path.{_≡_};
 
 // Vertex v gets its diagram; where another vertex has its function or the inverse, the two merge.
@@ -22,7 +22,7 @@ pub fn meet(
     size: u32,
 )
     requires { ⌜ MeetAsked task v reference size (now look) (workspace (now pairs) (arrays (now diagrams) (now stages) (now rows) (now marks))) ⌝ }
-    ensures { λ _. ⌜ workspace (now (pairs .exit)) (arrays (now (diagrams .exit)) (now (stages .exit)) (now (rows .exit)) (now (marks .exit))) ≡ metWorkspace task v reference size (workspace (now (pairs .entry)) (arrays (now (diagrams .entry)) (now (stages .entry)) (now (rows .entry)) (now (marks .entry)))) ⌝ }
+    ensures { λ _. ⌜ workspaces pairs diagrams stages rows marks .exit ≡ metWorkspace task v reference size (workspaces pairs diagrams stages rows marks .entry) ⌝ }
 {
     let twin = find_twin(&rows[..], reference);
     draw(diagrams, stages, rows, marks, v, reference, size);

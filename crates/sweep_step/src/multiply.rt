@@ -7,9 +7,9 @@ use sweep_parts::look::look;
 use sweep_parts::operands::take_product;
 use sweep_parts::task::Task;
 ghost use Prim.Native.Nat.{_*_, _≤_};
-ghost use Rattle.sweep_parts.specs.code.Meet.{workspace};
-ghost use Rattle.sweep_parts.specs.code.Settle.{EndedIn};
 ghost use Rattle.sweep_parts.specs.code.Arrays.{arrays};
+ghost use Rattle.sweep_parts.specs.code.Meet.{workspace, workspaces};
+ghost use Rattle.sweep_parts.specs.code.Settle.{EndedIn};
 ghost use Rattle.sweep_step.specs.code.Multiply.{Concludes, DueIn, Takes};
 ghost use lib.ListN.{length};
 
@@ -47,7 +47,7 @@ fn conclude(
 ) -> Step
     requires ended { ⌜ EndedIn task v reference used kept (workspace (now pairs) (arrays (now diagrams) (now stages) (now rows) (now marks))) ⌝ }
     requires long { ⌜ 2 * task .count ≤ length (now places) ⌝ }
-    ensures { λ r. ⌜ Concludes task v reference used kept steps (workspace (now (pairs .entry)) (arrays (now (diagrams .entry)) (now (stages .entry)) (now (rows .entry)) (now (marks .entry)))) (workspace (now (pairs .exit)) (arrays (now (diagrams .exit)) (now (stages .exit)) (now (rows .exit)) (now (marks .exit)))) r ⌝ }
+    ensures { λ r. ⌜ Concludes task v reference used kept steps (workspaces pairs diagrams stages rows marks .entry) (workspaces pairs diagrams stages rows marks .exit) r ⌝ }
 {
     let left = settle(
         pairs,
@@ -85,7 +85,7 @@ pub fn multiply(
 ) -> Step
     requires due { ⌜ DueIn task v used steps (workspace (now pairs) (arrays (now diagrams) (now stages) (now rows) (now marks))) ⌝ }
     requires long { ⌜ 2 * task .count ≤ length (now places) ⌝ }
-    ensures { λ r. ⌜ Takes task v used steps (workspace (now (pairs .entry)) (arrays (now (diagrams .entry)) (now (stages .entry)) (now (rows .entry)) (now (marks .entry)))) (workspace (now (pairs .exit)) (arrays (now (diagrams .exit)) (now (stages .exit)) (now (rows .exit)) (now (marks .exit)))) r ⌝ }
+    ensures { λ r. ⌜ Takes task v used steps (workspaces pairs diagrams stages rows marks .entry) (workspaces pairs diagrams stages rows marks .exit) r ⌝ }
 {
     let product = take_product(&pairs[..], &diagrams[..], rows, task, v, used, steps);
     match product {

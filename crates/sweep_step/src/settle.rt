@@ -4,9 +4,9 @@ use bdd::size::size;
 use sweep_parts::drop::drop_vertex;
 use sweep_parts::task::Task;
 ghost use Prim.Native.Nat.{_*_, _≤_};
-ghost use Rattle.sweep_parts.specs.code.Meet.{workspace};
-ghost use Rattle.sweep_parts.specs.code.Settle.{BeforeProduct, Ended, EndedIn, Settled};
 ghost use Rattle.sweep_parts.specs.code.Arrays.{arrays};
+ghost use Rattle.sweep_parts.specs.code.Meet.{workspace, workspaces};
+ghost use Rattle.sweep_parts.specs.code.Settle.{EndedIn, Settles};
 ghost use lib.ListN.{length};
 
 // Vertex v, whose product has a reference, is dropped where it is too large, and else met. Gives the rows then used.
@@ -25,7 +25,7 @@ pub fn settle(
 ) -> usize
     requires ended { ⌜ EndedIn task v reference used kept (workspace (now pairs) (arrays (now diagrams) (now stages) (now rows) (now marks))) ⌝ }
     requires long { ⌜ 2 * task .count ≤ length (now look) ⌝ }
-    ensures { λ r. ⌜ ((x : BeforeProduct) → Ended task x v reference used kept (workspace (now (pairs .entry)) (arrays (now (diagrams .entry)) (now (stages .entry)) (now (rows .entry)) (now (marks .entry)))) → Settled task x v used kept (workspace (now (pairs .entry)) (arrays (now (diagrams .entry)) (now (stages .entry)) (now (rows .entry)) (now (marks .entry)))) (workspace (now (pairs .exit)) (arrays (now (diagrams .exit)) (now (stages .exit)) (now (rows .exit)) (now (marks .exit)))) r) ⌝ }
+    ensures { λ r. ⌜ Settles task v reference used kept (workspaces pairs diagrams stages rows marks .entry) (workspaces pairs diagrams stages rows marks .exit) r ⌝ }
 {
     let measured = size(rows, used, task.rows, reference);
     if task.size < measured {

@@ -3,8 +3,8 @@ use crate::visit::Going;
 use crate::visit::visit;
 use sweep_parts::task::Task;
 ghost use Prim.Native.Nat.{_*_, _≤_};
-ghost use Rattle.sweep_parts.specs.code.Meet.{workspace};
 ghost use Rattle.sweep_parts.specs.code.Arrays.{arrays};
+ghost use Rattle.sweep_parts.specs.code.Meet.{workspace, workspaces};
 ghost use Rattle.sweep_turn.specs.code.Scan.{Scans};
 ghost use Rattle.sweep_turn.specs.code.Visit.{ScanIn};
 ghost use lib.ListN.{length};
@@ -23,7 +23,7 @@ pub fn scan(
 ) -> Going
     requires scan { ⌜ ScanIn task from used steps (workspace (now pairs) (arrays (now diagrams) (now stages) (now rows) (now marks))) ⌝ }
     requires long { ⌜ (from ≤ task .count) × (2 * task .count ≤ length (now places)) ⌝ }
-    ensures { λ r. ⌜ Scans task from used steps (workspace (now (pairs .entry)) (arrays (now (diagrams .entry)) (now (stages .entry)) (now (rows .entry)) (now (marks .entry)))) (workspace (now (pairs .exit)) (arrays (now (diagrams .exit)) (now (stages .exit)) (now (rows .exit)) (now (marks .exit)))) r ⌝ }
+    ensures { λ r. ⌜ Scans task from used steps (workspaces pairs diagrams stages rows marks .entry) (workspaces pairs diagrams stages rows marks .exit) r ⌝ }
 {
     let count = task.count;
     let mut v = from;

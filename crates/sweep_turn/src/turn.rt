@@ -7,8 +7,8 @@ use sweep_graph::stage::OPENED;
 use sweep_graph::stage::set_stage;
 use sweep_parts::task::Task;
 ghost use Prim.Native.Nat.{_*_, _≤_};
-ghost use Rattle.sweep_parts.specs.code.Meet.{workspace};
 ghost use Rattle.sweep_parts.specs.code.Arrays.{arrays};
+ghost use Rattle.sweep_parts.specs.code.Meet.{workspace, workspaces};
 ghost use Rattle.sweep_turn.specs.code.Turn.{Goes, OpenIn, Opens, RestIn};
 ghost use lib.ListN.{length};
 
@@ -27,7 +27,7 @@ fn open(
 ) -> Going
     requires opening { ⌜ OpenIn task v used steps (workspace (now pairs) (arrays (now diagrams) (now stages) (now rows) (now marks))) ⌝ }
     requires long { ⌜ 2 * task .count ≤ length (now places) ⌝ }
-    ensures { λ r. ⌜ Opens task v used steps (workspace (now (pairs .entry)) (arrays (now (diagrams .entry)) (now (stages .entry)) (now (rows .entry)) (now (marks .entry)))) (workspace (now (pairs .exit)) (arrays (now (diagrams .exit)) (now (stages .exit)) (now (rows .exit)) (now (marks .exit)))) r ⌝ }
+    ensures { λ r. ⌜ Opens task v used steps (workspaces pairs diagrams stages rows marks .entry) (workspaces pairs diagrams stages rows marks .exit) r ⌝ }
 {
     set_stage(stages, v, OPENED);
     scan(
@@ -58,7 +58,7 @@ pub fn go(
 ) -> Going
     requires rest { ⌜ RestIn task used steps (workspace (now pairs) (arrays (now diagrams) (now stages) (now rows) (now marks))) ⌝ }
     requires long { ⌜ 2 * task .count ≤ length (now places) ⌝ }
-    ensures { λ r. ⌜ Goes task used steps (workspace (now (pairs .entry)) (arrays (now (diagrams .entry)) (now (stages .entry)) (now (rows .entry)) (now (marks .entry)))) (workspace (now (pairs .exit)) (arrays (now (diagrams .exit)) (now (stages .exit)) (now (rows .exit)) (now (marks .exit)))) r ⌝ }
+    ensures { λ r. ⌜ Goes task used steps (workspaces pairs diagrams stages rows marks .entry) (workspaces pairs diagrams stages rows marks .exit) r ⌝ }
 {
     let mut more = used;
     let mut taken = steps;

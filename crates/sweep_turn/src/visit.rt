@@ -12,8 +12,8 @@ use sweep_step::multiply::Step;
 use sweep_step::multiply::multiply;
 ghost use Prim.Native.Nat.{_*_, _<_, _≤_};
 ghost use Rattle.aig.specs.Literal.{vertexOf};
-ghost use Rattle.sweep_parts.specs.code.Meet.{workspace};
 ghost use Rattle.sweep_parts.specs.code.Arrays.{arrays};
+ghost use Rattle.sweep_parts.specs.code.Meet.{workspace, workspaces};
 ghost use Rattle.sweep_turn.specs.code.Visit.{ReadyAsked, ScanIn, Visits, goingBy, goingOf, openWord, readyAt};
 ghost use lib.ListN.{length};
 ghost use mathlib.Core.Path.{_≡_};
@@ -91,7 +91,7 @@ pub fn visit(
 ) -> Going
     requires scan { ⌜ ScanIn task v used steps (workspace (now pairs) (arrays (now diagrams) (now stages) (now rows) (now marks))) ⌝ }
     requires long { ⌜ (v < task .count) × (2 * task .count ≤ length (now places)) ⌝ }
-    ensures { λ r. ⌜ Visits task v used steps (workspace (now (pairs .entry)) (arrays (now (diagrams .entry)) (now (stages .entry)) (now (rows .entry)) (now (marks .entry)))) (workspace (now (pairs .exit)) (arrays (now (diagrams .exit)) (now (stages .exit)) (now (rows .exit)) (now (marks .exit)))) r ⌝ }
+    ensures { λ r. ⌜ Visits task v used steps (workspaces pairs diagrams stages rows marks .entry) (workspaces pairs diagrams stages rows marks .exit) r ⌝ }
 {
     if is_ready(&pairs[..], &stages[..], task, v) {
         let step = multiply(

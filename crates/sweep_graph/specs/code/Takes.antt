@@ -9,6 +9,8 @@ use Rattle.bdd.specs.code.Rows.{RADIX}
 use Rattle.sweep_graph.specs.code.Stages.{stageWord, withStage, wordStage}
 use Rattle.sweep_model.specs.Normalise.{merged?, wake}
 use Rattle.sweep_model.specs.State.{gone, gone?, has?}
+use denote.Ref.{RefT, now}
+use denote.Triple.Both.{Both}
 use lib.Dec.{eqb}
 use lib.ListN.{length}
 use mathlib.Core.Bool.{Bool, cond}
@@ -22,6 +24,18 @@ pub record Held : Type 0 where
 
 abbrev pub held : List ℕ → List ℕ → List ℕ → Held
 held stages diagrams rows = record { stages = stages; diagrams = diagrams; rows = rows }
+
+-- A lent slice, at entry and at exit.
+abbrev pub Slice : Type 0
+Slice = Both (RefT (List ℕ)) (RefT (List ℕ))
+
+-- What three lent slices hold, at entry and at exit.
+abbrev pub helds : Slice → Slice → Slice → Both Held Held
+helds stages diagrams rows =
+    record {
+      entry = held (now (stages .entry)) (now (diagrams .entry)) (now (rows .entry));
+      exit = held (now (stages .exit)) (now (diagrams .exit)) (now (rows .exit));
+    }
 
 -- Whether a vertex has a diagram.
 abbrev pub hasWord : List ℕ → ℕ → Bool

@@ -4,12 +4,14 @@ use Rattle.aig.specs.Literal.{literalOf}
 use Rattle.aig.specs.Lookup.{firstWord}
 use Rattle.bdd.specs.code.Rows.{ownerAt}
 use Rattle.sweep_graph.specs.code.Graph.{Graph}
-use Rattle.sweep_graph.specs.code.Takes.{Held, TakesRoom, held, takesWords}
+use Rattle.sweep_graph.specs.code.Takes.{Held, Slice, TakesRoom, held, takesWords}
 use Rattle.sweep_model.specs.Normalise.{mergedInto, normaliseFrom}
-use Rattle.sweep_parts.specs.code.Arrays.{Arrays, arrays, drawnAt}
+use Rattle.sweep_parts.specs.code.Arrays.{Arrays, arrays, arraysOf, drawnAt}
 use Rattle.sweep_parts.specs.declared.task.Task.{Task}
 use Rattle.sweep_parts.specs.declared.twin.Twin.the-variants.{At, None}
 use Rattle.sweep_parts.specs.declared.twin.Twin.{Twin}
+use denote.Ref.{now}
+use denote.Triple.Both.{Both}
 use lib.Dec.{eqb}
 use lib.ListN.{length}
 use mathlib.Core.Bool.{Bool, cond, not}
@@ -55,6 +57,14 @@ pub record Workspace : Type 0 where
 
 abbrev pub workspace : List ℕ → Arrays → Workspace
 workspace pairs a = record { pairs = pairs; arrays = a }
+
+-- The workspace of five lent slices, at entry and at exit.
+abbrev pub workspaces : Slice → Slice → Slice → Slice → Slice → Both Workspace Workspace
+workspaces pairs diagrams stages rows marks =
+    record {
+      entry = workspace (now (pairs .entry)) (arraysOf diagrams stages rows marks .entry);
+      exit = workspace (now (pairs .exit)) (arraysOf diagrams stages rows marks .exit);
+    }
 
 -- The arrays as handing over sees them, and with what it left.
 abbrev pub heldOf : Arrays → Held

@@ -2,7 +2,8 @@
 use Prim.Native.Nat.{_*_, _+_, _<_, ℕ}
 use Rattle.aig.specs.Literal.{vertexOf}
 use Rattle.aig.specs.Lookup.{firstWord, secondWord}
-use Rattle.product.specs.Product.{Ask}
+use Rattle.product.specs.Product.{Ask, Multiplies}
+use Rattle.product.specs.declared.Product.{Product}
 use Rattle.sweep_parts.specs.code.Look.{referenceOf}
 use Rattle.sweep_parts.specs.declared.task.Task.{Task}
 use lib.ListN.{length}
@@ -21,3 +22,8 @@ pub record ProductAsked (t : Task) (v used steps : ℕ) (pairs diagrams rows : L
   pub first-diagram : 2 * vertexOf (firstWord pairs v) < length diagrams
   pub second-diagram : 2 * vertexOf (secondWord pairs v) < length diagrams
   pub asked : Ask rows (t .rows) used (firstOperand pairs diagrams v) (secondOperand pairs diagrams v) (t .inputs) steps (t .steps)
+
+-- The product of v's operands, on the rows before and after it.
+abbrev pub ProductTaken : Task → ℕ → ℕ → ℕ → List ℕ → List ℕ → List ℕ → List ℕ → Product → Type 0
+ProductTaken t v used steps pairs diagrams rows after r =
+    Multiplies rows after (t .rows) used (firstOperand pairs diagrams v) (secondOperand pairs diagrams v) (t .inputs) steps (t .steps) r

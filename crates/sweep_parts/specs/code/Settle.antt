@@ -76,3 +76,7 @@ settledState t x v used kept b =
 pub record Settled (t : Task) (x : BeforeProduct) (v used kept : ℕ) (b after : Workspace) (more : ℕ) : Type 0 where
   pub reached : settledState t x v used kept b ≡ stateOf (t .count) (onWorkspace after more (x .taken))
   pub represents : Represents t (x .functions) (x .entry) (onWorkspace after more (x .taken))
+
+-- They do so for each setting in which the product ended so.
+abbrev pub Settles : Task → ℕ → ℕ → ℕ → ℕ → Workspace → Workspace → ℕ → Type 0
+Settles t v reference used kept b after more = (x : BeforeProduct) → Ended t x v reference used kept b → Settled t x v used kept b after more
