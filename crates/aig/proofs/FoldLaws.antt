@@ -8,17 +8,12 @@ use Rattle.aig.specs.Pairs.{SamePair, crossed, straight}
 use Rattle.aig.specs.declared.fold.Folded.the-variants.{Pair, To}
 use Rattle.aig.specs.declared.fold.Folded.{Folded}
 use Rattle.aig.specs.declared.literal.Literal.{Literal}
+use Rattle.truth.proofs.Booleans.{cond-cases}
 use borrow.Author.Tests.{eqb-false, eqb-true, ltb-false, ltb-true}
 use lib.Dec.{eqb, ltb}
-use mathlib.Core.Bool.{Bool, cond, false, true}
 use mathlib.Core.Logic.{_⊎_, inl, inr, ⊎-elim}
 use mathlib.Core.Path.{_≡_, ap, refl, subst, sym}
 use native.Mathlib.Omega.{arith}
-
--- A claim about a tested value holds if it holds of each arm where that is taken.
-test : (P : Folded → Type 0) (b : Bool) {x y : Folded} → (b ≡ true → P x) → (b ≡ false → P y) → P (cond b x y)
-test P true yes-way no-way = yes-way refl
-test P false yes-way no-way = no-way refl
 
 -- A pair in order that passes the tests does not fold.
 pub unfolded : (p q : ℕ) → (p ≡ 0 → ⊥) → (p ≡ 1 → ⊥) → (negate p ≡ q → ⊥) → p < q → Unfolded p q
@@ -35,13 +30,13 @@ pub fold-cases :
     → (Unfolded p q → P (Pair (lit p) (lit q))) → (Unfolded q p → P (Pair (lit q) (lit p))) → P (foldOf p q)
 unfolding foldOf
 fold-cases p q P same inverse false-left false-right true-left true-right ordered swapped =
-    test P (eqb p q) (λ e. same (eqb-true p q e)) λ d₁.
-    test P (eqb (negate p) q) (λ e. inverse (eqb-true (negate p) q e)) λ d₂.
-    test P (eqb p 0) (λ e. false-left (eqb-true p 0 e)) λ d₃.
-    test P (eqb q 0) (λ e. false-right (eqb-true q 0 e)) λ d₄.
-    test P (eqb p 1) (λ e. true-left (eqb-true p 1 e)) λ d₅.
-    test P (eqb q 1) (λ e. true-right (eqb-true q 1 e)) λ d₆.
-    test P (ltb p q)
+    cond-cases P (eqb p q) (λ e. same (eqb-true p q e)) λ d₁.
+    cond-cases P (eqb (negate p) q) (λ e. inverse (eqb-true (negate p) q e)) λ d₂.
+    cond-cases P (eqb p 0) (λ e. false-left (eqb-true p 0 e)) λ d₃.
+    cond-cases P (eqb q 0) (λ e. false-right (eqb-true q 0 e)) λ d₄.
+    cond-cases P (eqb p 1) (λ e. true-left (eqb-true p 1 e)) λ d₅.
+    cond-cases P (eqb q 1) (λ e. true-right (eqb-true q 1 e)) λ d₆.
+    cond-cases P (ltb p q)
     (λ e. ordered (unfolded p q (eqb-false p 0 d₃) (eqb-false p 1 d₅) (eqb-false (negate p) q d₂) (ltb-true p q e)))
     (λ e. swapped (unfolded-swapped p q (eqb-false p q d₁) (eqb-false q 0 d₄) (eqb-false q 1 d₆) (eqb-false (negate p) q d₂) (ltb-false p q e)))
 

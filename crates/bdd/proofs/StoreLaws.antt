@@ -7,26 +7,19 @@ use Rattle.bdd.specs.Diagram.{Canonical, Reach, Reference, along, arrive
 use Rattle.bdd.specs.code.Rows.{child, highAt, levelAt, lowAt}
 use Rattle.bdd.specs.code.Store.{Agree}
 use Rattle.truth.proofs.Booleans.{clash, not-true, or-cases, or-left, or-right}
-use Rattle.truth.proofs.Distinct.{among-append, apart-distinct, distinct-same}
-use Rattle.truth.proofs.Equality.{alike-cases, same-equal, same-reflexive}
-use Rattle.truth.proofs.Parts.{PartOf, alike-depth, alike-sameness, high, itself, low, part-cases, part-high, part-low, part-self, parts-alike, parts-leaf, parts-node}
+use Rattle.truth.proofs.Distinct.{apart-distinct, distinct-same}
+use Rattle.truth.proofs.Equality.{alike-cases, same-equal}
+use Rattle.truth.proofs.Parts.{PartOf, alike-depth, alike-sameness, high, itself, low, part-cases, part-high, part-low, part-self, parts-alike, parts-leaf, parts-skip}
 use Rattle.truth.specs.Distinct.{among, apart}
 use Rattle.truth.specs.Parts.{alike?, allParts, depends?, parts, together}
 use Rattle.truth.specs.Truth.{Truth, node, same?, valueAt}
 use lib.ListN.{length}
-use mathlib.Core.Bool.{Bool, false, not, or-self, true}
+use mathlib.Core.Bool.{Bool, false, not, true}
 use mathlib.Core.List.{List, [], _∷_}
 use mathlib.Core.Logic.{_⊎_, inl, inr, ⊎-elim}
 use mathlib.Core.Path.{_∙_, _≡_, ap, ap₂, refl, subst, sym}
 use native.Mathlib.Decide.{le-ind, ℕ-discrete}
 use native.Mathlib.Omega.{arith}
-
--- An input that a function does not depend on changes nothing in its parts.
-part-skip : (t f : Truth) → among alike? t (parts (node f f)) ≡ among alike? t (parts f)
-part-skip t f =
-    ap (among alike? t) (parts-node f f ∙ rw (same-reflexive f))
-    ∙ among-append alike? t (parts f) (parts f)
-    ∙ or-self (among alike? t (parts f))
 
 -- The parts of a reference's function are those of its row's.
 pub parts-reference : (rows : List ℕ) (t : Truth) (r m : ℕ) → levelAt rows (r / 2) ≤ m
@@ -36,7 +29,7 @@ parts-reference rows t r =
     le-ind (λ (m : ℕ). among alike? t (parts (denote rows m r)) ≡ among alike? t (parts (rowFunction rows (r / 2))))
     (parts-alike t (denote rows (levelAt rows (r / 2)) r) (denote rows (levelAt rows (r / 2)) (r / 2 * 2))
     (one-row-alike rows (levelAt rows (r / 2)) r (r / 2 * 2) (sym (double-row (r / 2)))))
-    (λ m le ih. ap (λ f. among alike? t (parts f)) (denote-skip rows m r le) ∙ part-skip t (denote rows m r) ∙ ih)
+    (λ m le ih. ap (λ f. among alike? t (parts f)) (denote-skip rows m r le) ∙ parts-skip t (denote rows m r) ∙ ih)
 
 -- The constant's function has no parts.
 pub constant-parts : {A : Type 0} (rows : List ℕ) (t : Truth) → among alike? t (parts (rowFunction rows 0)) ≡ true → A

@@ -7,6 +7,7 @@ use Rattle.table.proofs.AcceptedLaws.{accepted}
 use Rattle.table.proofs.RefusalLaws.{first-passed, none-applies, table-passed}
 use Rattle.table.specs.Refusals.{Test}
 use Rattle.table.specs.Table.{inputsOf, outputsOf, tableTests, verticesOf}
+use Rattle.truth.proofs.Booleans.{neither}
 use borrow.Author.Tests.{eq-eqb, leb-false, leb-true, ltb-false, ne-eqb, not-false}
 use lib.Dec.{leb, ltb}
 use lib.ListN.{length}
@@ -15,7 +16,6 @@ use mathlib.Core.List.{List, [], _∷_}
 use mathlib.Core.Logic.{_≢_}
 use mathlib.Core.Path.{_∙_, _≡_, sym}
 use native.Mathlib.Omega.{arith}
-use Rattle.truth.proofs.Booleans.{neither}
 
 limit-within : (most n : ℕ) → outside? most n ≡ false → Within most n
 unfolding outside?

@@ -11,6 +11,7 @@ use Rattle.table.proofs.MeaningLaws.{literal-mapped, values-mapped}
 use Rattle.table.proofs.RefusalLaws.{first-passed, none-applies, table-passed}
 use Rattle.table.specs.Refusals.{firstRefusal}
 use Rattle.table.specs.Table.{graphOf, inputsOf, outputValue, outputsOf, rowsOf, sideOutputs, tableTests, valuesOn, verticesOf}
+use Rattle.truth.proofs.Booleans.{neither}
 use borrow.Author.Tests.{eqb-true, leb-false, ltb-false, ne-eqb, not-false}
 use lib.Dec.{leb}
 use lib.ListN.{getD, length, take}
@@ -18,7 +19,6 @@ use mathlib.Core.Bool.{_&&_, false, not}
 use mathlib.Core.List.{List, _∷_, map}
 use mathlib.Core.Path.{_∙_, _≡_, ap, refl, subst, sym}
 use native.Mathlib.Omega.{arith}
-use Rattle.truth.proofs.Booleans.{neither}
 
 -- Where no refusal applies, the arguments are ready.
 pub ready : (words : List ℕ) (side output : ℕ) (setting : List ℕ) (room : ℕ)

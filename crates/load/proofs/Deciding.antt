@@ -7,7 +7,6 @@ use Rattle.load.specs.code.File.{netlistOf}
 use Rattle.load.specs.code.Pair.{Agreed, Enough}
 use Rattle.load.specs.declared.decision.Decision.the-variants.{Go, Refused}
 use Rattle.load.specs.declared.decision.Decision.{Decision}
-use Rattle.netlist.proofs.Choices.{cond-cases}
 use Rattle.netlist.proofs.ReadLaws.{accepted-holds}
 use Rattle.netlist.specs.code.Accepted.{HoldsNetlist, countsIn}
 use Rattle.netlist.specs.Check as check
@@ -20,13 +19,13 @@ use Rattle.netlist.specs.declared.check.Summary.{Summary}
 use Rattle.table.specs.Limits.{maxAnds}
 use Rattle.table.specs.Refusals.{firstRefusal}
 use Rattle.text.specs.Split.{upTo}
+use Rattle.truth.proofs.Booleans.{cond-cases, neither}
 use borrow.Author.Tests.{eqb-true, ltb-false, not-false}
 use lib.Dec.{eqb, ltb}
 use lib.ListN.{length}
 use mathlib.Core.Bool.{_||_, false, not}
 use mathlib.Core.List.{List}
 use mathlib.Core.Path.{_∙_, _≡_, ap, ap₂, refl, subst, sym}
-use Rattle.truth.proofs.Booleans.{neither}
 
 same : (m n : ℕ) → not (eqb m n) ≡ false → m ≡ n
 same m n h = eqb-true m n (not-false (eqb m n) h)

@@ -11,6 +11,7 @@ use Rattle.netlist.specs.Meaning.{andCount}
 use Rattle.netlist.specs.Netlist.{Netlist, bytesOf}
 use Rattle.table.specs.Limits.{maxAnds}
 use Rattle.table.specs.Refusals.{Test, firstRefusal}
+use Rattle.truth.proofs.Booleans.{neither}
 use borrow.Author.Tests.{eq-eqb, eqb-true, le-ltb, ltb-false, not-false}
 use lib.Dec.{eqb, ltb}
 use lib.ListN.{length}
@@ -18,7 +19,6 @@ use mathlib.Core.Bool.{Bool, _||_, cond, false, not, true}
 use mathlib.Core.List.{List, [], _∷_}
 use mathlib.Core.Path.{_≡_, refl}
 use native.Mathlib.Omega.{arith}
-use Rattle.truth.proofs.Booleans.{neither}
 
 -- The tests of two netlists that are within the limits do not apply.
 counts-agree : {d e : Netlist} → Loadable d e → countsDiffer? (countsIn d) (countsIn e) ≡ false

@@ -1,5 +1,4 @@
 pub mod CheckLaws
-pub mod Choices
 pub mod FileLaws
 pub mod LineLaws
 pub mod MeaningLaws

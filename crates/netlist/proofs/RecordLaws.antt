@@ -1,6 +1,5 @@
 -- Records and the fields of their lines.
 use Prim.Native.Nat.{_+_, _<_, _^_, suc, zero, ℕ}
-use Rattle.netlist.proofs.Choices.{cond-cases}
 use Rattle.netlist.specs.Netlist.{fieldsOf}
 use Rattle.netlist.specs.Records.{fieldsRecord, gateIn, gateOf, headerIn, headerOf, laidOut, operationBytes, operationOf, outputIn, outputOf}
 use Rattle.netlist.specs.declared.records.Operation.the-variants.{And, Or, Xor}
@@ -17,7 +16,7 @@ use Rattle.text.specs.Numerals.{MAX-DIGITS, numeralOf}
 use Rattle.text.specs.Split.{anyHas, has}
 use Rattle.text.specs.declared.numerals.Numeral.the-variants.{Malformed as Unread, Value}
 use Rattle.text.specs.declared.numerals.Numeral.{Numeral}
-use Rattle.truth.proofs.Booleans.{and-left, and-right}
+use Rattle.truth.proofs.Booleans.{and-left, and-right, cond-cases}
 use borrow.Author.Tests.{eqb-true}
 use lib.Dec.{eqb}
 use lib.ListN.{drop, drop-of-length-le, getD, length}

@@ -3,15 +3,15 @@ use Prim.Native.Nat.{ℕ}
 use Rattle.product_model.proofs.Members.{within-none}
 use Rattle.truth.proofs.Booleans.{neither, or-cases}
 use Rattle.truth.proofs.Distinct.{Within, among-append}
-use Rattle.truth.proofs.Equality.{agree-equal, alike-cases, constant-equal, same-equal, same-reflexive}
-use Rattle.truth.proofs.Parts.{parts-constant, parts-node}
+use Rattle.truth.proofs.Equality.{agree-equal, alike-cases, constant-equal, same-equal}
+use Rattle.truth.proofs.Parts.{parts-constant, parts-node, parts-skip}
 use Rattle.truth.proofs.Values.{perfect-conj, perfect-constant, value-conj, value-constant, value-invert}
 use Rattle.truth.specs.Distinct.{among}
 use Rattle.truth.specs.Parts.{alike?, depends?, parts}
 use Rattle.truth.specs.Steps.{terminal?}
 use Rattle.truth.specs.Truth.{Perfect, Setting, Truth, conj, constant?, constantly, invert, leaf, node, same?, valueAt}
 use borrow.Author.Tests.{not-false}
-use mathlib.Core.Bool.{Bool, _&&_, _||_, and-comm, and-false, and-not-self, and-self, and-true, cond, false, not, or-comm, or-false, or-self, true}
+use mathlib.Core.Bool.{Bool, _&&_, _||_, and-comm, and-false, and-not-self, and-self, and-true, cond, false, not, or-comm, or-false, true}
 use mathlib.Core.List.{List, [], _++_, _∷_, append-nil}
 use mathlib.Core.Logic.{⊎-elim}
 use mathlib.Core.Path.{_∙_, _≡_, ap, ap₂, refl, sym}
@@ -78,18 +78,12 @@ independent : (f g : Truth) → depends? (node f g) ≡ false → f ≡ g
 unfolding depends?
 independent f g e = same-equal f g (not-false (same? f g) e)
 
--- An input that a function does not depend on adds no part to it.
-pub parts-skip : (t f : Truth) → among alike? t (parts f) ≡ among alike? t (parts (node f f))
-parts-skip t f =
-    sym (or-self (among alike? t (parts f))) ∙ sym (among-append alike? t (parts f) (parts f))
-    ∙ ap (among alike? t) (sym (parts-node f f ∙ rw (same-reflexive f)))
-
 -- An input that neither function depends on adds no part to their conjunction.
 pub parts-passed : (f₀ f₁ g₀ g₁ : Truth) → depends? (node f₀ f₁) || depends? (node g₀ g₁) ≡ false
     → (t : Truth) → among alike? t (parts (conj f₀ g₀)) ≡ among alike? t (parts (node (conj f₀ g₀) (conj f₁ g₁)))
 parts-passed f₀ f₁ g₀ g₁ e t =
     let n = neither (depends? (node f₀ f₁)) (depends? (node g₀ g₁)) e in
-    parts-skip t (conj f₀ g₀)
+    sym (parts-skip t (conj f₀ g₀))
     ∙ ap (λ h. among alike? t (parts (node (conj f₀ g₀) h))) (ap₂ conj (independent f₀ f₁ (n .0)) (independent g₀ g₁ (n .1)))
 
 -- The parts of a function in the order in which a run makes their rows: those of the halves, then the function itself.

@@ -1,10 +1,9 @@
 -- The row of an input.
 use Prim.Native.Nat.{_-_, _<_, suc, zero, ℕ}
-use Rattle.product_model.proofs.Conjunction.{parts-skip}
 use Rattle.product_model.proofs.Ran.{Ran, add-ran, ran-as}
 use Rattle.product_model.specs.code.Books.{Proper}
 use Rattle.product_model.specs.Run.{Book, addPart}
-use Rattle.truth.proofs.Parts.{constants-differ, parts-constant, parts-node}
+use Rattle.truth.proofs.Parts.{constants-differ, parts-constant, parts-node, parts-skip}
 use Rattle.truth.specs.Distinct.{among}
 use Rattle.truth.specs.Parts.{alike?, parts}
 use Rattle.truth.specs.Truth.{Truth, constantly, input}
@@ -25,7 +24,7 @@ parts-input (suc n) zero h t =
     (parts-node (constantly n false) (constantly n true) ∙ rw (constants-differ n, parts-constant n false, parts-constant n true))))
 parts-input (suc n) (suc i) h t =
     let e : suc n - suc i ≡ n - i = omega arith in
-    rw e (parts-input n i (omega arith) t ∙ parts-skip t (input n (suc i)))
+    rw e (parts-input n i (omega arith) t ∙ sym (parts-skip t (input n (suc i))))
 
 -- Adding that part gives the input its row.
 pub input-ran : (rowLimit stepLimit : ℕ) {b : Book} → Proper rowLimit stepLimit b → (n i : ℕ) → i < n

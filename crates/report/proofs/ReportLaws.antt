@@ -1,5 +1,4 @@
 -- What a reader finds in the lines.
-use native.Mathlib.Omega.{arith}
 use Prim.Native.Nat.{ℕ}
 use Rattle.report.specs.Report.{lineOf, refusedFields, refusedLine, replyFields, replyLine, settingField, vertexField, wordBytes}
 use Rattle.report.specs.declared.fields.Vertex.the-variants.{At, None}
@@ -16,6 +15,7 @@ use lib.ListN.{getD}
 use mathlib.Core.Bool.{false, true}
 use mathlib.Core.List.{List, [], _++_, _∷_, append-assoc}
 use mathlib.Core.Path.{_∙_, _≡_, ap, refl, sym}
+use native.Mathlib.Omega.{arith}
 
 -- A line has one byte 10, its last, and the bytes before it are its fields with tabs between them.
 pub record Reads (line : List ℕ) (fields : List (List ℕ)) : Type 0 where

@@ -8,12 +8,12 @@ use Rattle.netlist.specs.Check.{readNetlist}
 use Rattle.report_model.specs.Report.{Lent, firstOf, loadRoom, reportOf, reportRoom, reported, rowLimit, short?, shortRoom?, untouched, works?}
 use Rattle.table.specs.Accepted.{Accepted}
 use Rattle.table.specs.Limits.{maxInputs}
+use Rattle.truth.proofs.Booleans.{neither}
 use borrow.Author.Tests.{ltb-false}
 use lib.Dec.{ltb}
 use mathlib.Core.Bool.{_||_, false, true}
 use mathlib.Core.List.{List}
 use mathlib.Core.Path.{_≡_, refl}
-use Rattle.truth.proofs.Booleans.{neither}
 
 -- The slices are long enough.
 pub record Long (o r m s : ℕ) : Type 0 where

@@ -66,3 +66,8 @@ cond-same false x = refl
 pub cond-ap {ℓ κ} : {A : Type ℓ} {B : Type κ} (f : A → B) (b : Bool) (x y : A) → f (cond b x y) ≡ cond b (f x) (f y)
 cond-ap f true x y = refl
 cond-ap f false x y = refl
+
+-- What holds of both sides, each where the test chooses it, holds of the choice.
+pub cond-cases : {A : Type 0} (P : A → Type 0) (b : Bool) {x y : A} → (b ≡ true → P x) → (b ≡ false → P y) → P (cond b x y)
+cond-cases P true f g = f refl
+cond-cases P false f g = g refl

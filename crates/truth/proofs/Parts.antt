@@ -135,12 +135,17 @@ pub size-constant : (n : ℕ) (b : Bool) → size (constantly n b) ≡ 0
 unfolding size distinct
 size-constant n b = ap (λ l. length (distinct alike? l)) (parts-constant n b)
 
+-- An input that a function does not depend on changes nothing in its parts.
+pub parts-skip : (t f : Truth) → among alike? t (parts (node f f)) ≡ among alike? t (parts f)
+parts-skip t f =
+    ap (among alike? t) (parts-node f f ∙ rw (same-reflexive f)) ∙ among-append alike? t (parts f) (parts f) ∙ or-self (among alike? t (parts f))
+
 -- An input that a function does not depend on changes nothing in its size.
 pub size-skip : (f : Truth) → size (node f f) ≡ size f
 unfolding size
 size-skip f =
     distinct-same alike? alike-sameness (parts (node f f)) (parts f)
-    (λ t. ap (among alike? t) (parts-node f f ∙ rw (same-reflexive f)) ∙ among-append alike? t (parts f) (parts f) ∙ or-self (among alike? t (parts f)))
+    (λ t. parts-skip t f)
 
 -- The two constants differ.
 pub constants-differ : (n : ℕ) → same? (constantly n false) (constantly n true) ≡ false
