@@ -3,6 +3,7 @@
 use libc::STDOUT_FILENO;
 ghost use Prim.Native.Nat.{_≤_};
 ghost use Rattle.io.specs.Counts.{Counts};
+ghost use lib.ListN.{length};
 
 // A byte more than a file may have, so that a longer one is seen to be too long.
 const FILE_ROOM: usize = netlist::MAX_BYTES + 1;
@@ -55,9 +56,9 @@ fn read_named(folder: &[u8], name: &[u8], bytes: &mut [u8; FILE_ROOM]) -> usize
 }
 
 // Puts bytes into a path from a place on, as many as there is room for, and gives back the place after them.
-fn put_all(path: &mut [u8; PATH_ROOM], from: usize, bytes: &[u8]) -> usize
-    requires { ⌜ from ≤ 64 ⌝ }
-    ensures { λ r. ⌜ r ≤ 64 ⌝ }
+fn put_all(path: &mut [u8], from: usize, bytes: &[u8]) -> usize
+    requires { ⌜ from ≤ length (now path) ⌝ }
+    ensures { λ r. ⌜ r ≤ length (now (path .exit)) ⌝ }
 {
     let mut at = from;
     let mut i = 0;
@@ -68,11 +69,11 @@ fn put_all(path: &mut [u8; PATH_ROOM], from: usize, bytes: &[u8]) -> usize
     at
 }
 
-fn put(path: &mut [u8; PATH_ROOM], at: usize, byte: u8) -> usize
-    requires { ⌜ at ≤ 64 ⌝ }
-    ensures { λ r. ⌜ r ≤ 64 ⌝ }
+fn put(path: &mut [u8], at: usize, byte: u8) -> usize
+    requires { ⌜ at ≤ length (now path) ⌝ }
+    ensures { λ r. ⌜ r ≤ length (now (path .exit)) ⌝ }
 {
-    if at < PATH_ROOM {
+    if at < path.len() {
         path[at] = byte;
         return at + 1;
     }
@@ -83,13 +84,17 @@ fn put(path: &mut [u8; PATH_ROOM], at: usize, byte: u8) -> usize
 fn report_short() {
     let mut short = 0;
     while short < SLICES {
-        print_report(
-            b"N\t1\t2\t1\t1\nG\tand\t2\t4\nO\t6\n",
-            b"N\t1\t2\t1\t1\nG\tor\t2\t4\nO\t6\n",
-            short,
-        );
+        report_and_or(short);
         short += 1;
     }
+}
+
+fn report_and_or(short: usize) {
+    print_report(
+        b"N\t1\t2\t1\t1\nG\tand\t2\t4\nO\t6\n",
+        b"N\t1\t2\t1\t1\nG\tor\t2\t4\nO\t6\n",
+        short,
+    );
 }
 
 // Prints the report on two files, with one of the lent slices one element short, or none. An empty report is said to be nothing.
@@ -108,7 +113,7 @@ fn print_report(left: &[u8], right: &[u8], short: usize) {
     let rows_end = report_model::ROWS_ROOM - less(short, 6);
     let marks_end = load_graph::MAX_VERTICES - less(short, 7);
     let setting_end = SETTING_ROOM - less(short, 8);
-    let end = report_in(
+    print_with(
         left,
         right,
         short,
@@ -122,29 +127,31 @@ fn print_report(left: &[u8], right: &[u8], short: usize) {
         &mut marks[..marks_end],
         &mut setting[..setting_end],
     );
-    print(&out, end);
 }
 
-// The report, with one of the four slices to work in one word short, or none.
-fn report_in(
+// Prints it with one of the four slices to work in one word short, or none.
+fn print_with(
     left: &[u8],
     right: &[u8],
     short: usize,
     out: &mut [u8],
     table: &mut [u32],
-    pairs: &mut [u32; WORKING_ROOM],
-    look: &mut [u32; WORKING_ROOM],
-    diagrams: &mut [u32; WORKING_ROOM],
-    stages: &mut [u32; WORKING_ROOM],
+    pairs: &mut [u32],
+    look: &mut [u32],
+    diagrams: &mut [u32],
+    stages: &mut [u32],
     rows: &mut [u32],
     marks: &mut [u8],
     setting: &mut [u8],
-) -> usize {
+)
+    requires { ⌜ (12418 ≤ length (now pairs)) × (12418 ≤ length (now look)) ⌝ }
+    requires { ⌜ (12418 ≤ length (now diagrams)) × (12418 ≤ length (now stages)) ⌝ }
+{
     let pairs_end = WORKING_ROOM - less(short, 2);
     let look_end = WORKING_ROOM - less(short, 3);
     let diagrams_end = WORKING_ROOM - less(short, 4);
     let stages_end = WORKING_ROOM - less(short, 5);
-    report_pair::report_pair(
+    let end = report_pair::report_pair(
         left,
         right,
         out,
@@ -156,7 +163,8 @@ fn report_in(
         rows,
         marks,
         setting,
-    )
+    );
+    print(&out[..], end);
 }
 
 // By how much a slice is short.
@@ -170,8 +178,11 @@ fn less(short: usize, slice: usize) -> usize
 }
 
 fn print(out: &[u8], end: usize) {
-    if out.len() < end || end == 0 {
+    if end == 0 {
         io::write_all(STDOUT_FILENO, b"nothing\n");
+        return;
+    }
+    if out.len() < end {
         return;
     }
     io::write_all(STDOUT_FILENO, &out[..end]);

@@ -2,9 +2,10 @@
 use Prim.Native.Nat.{_*_, _<_, _≤_, suc, zero, ℕ}
 use Rattle.aig.specs.Literal.{vertexOf}
 use Rattle.aig.specs.Lookup.{firstWord, secondWord}
+use Rattle.sweep_model.proofs.Bound.{claim-on}
 use Rattle.sweep_model.proofs.Choices.{none-dropped, pick-none, pick-waits, twin-at}
 use Rattle.sweep_model.proofs.Halt.{Resting, cause-idle, sweep-quiet}
-use Rattle.sweep_model.proofs.Induction.{Keeps, Place, Quiet, giving, scanning}
+use Rattle.sweep_model.proofs.Induction.{Keeps, Place, Quiet, giving, go-claim, scanning, start-claim}
 use Rattle.sweep_model.proofs.Rows.{resolve-within}
 use Rattle.sweep_model.proofs.Stages.{bare-lacks, has-not-gone, rests-is, stage-cases, stage-within, waits-has}
 use Rattle.sweep_model.proofs.Starving.{Delayed, NoneStarves, by-first, by-second, due-starves, first-alive, first-lower, giving-starves, merger-starves, passed-starves, second-alive, second-lower, starving-set}
@@ -13,7 +14,7 @@ use Rattle.sweep_model.specs.Fit.{Fit, vertexCount}
 use Rattle.sweep_model.specs.Normalise.{resolve, wasMerged?}
 use Rattle.sweep_model.specs.State.{Problem, Stage, State, bare?, dropped, dropped?, gone?, has?, opened, stageOf, waiting, waits?}
 use Rattle.sweep_model.specs.code.Steady.{Steady, Unsettled, haveNow?}
-use Rattle.sweep_model.specs.Sweep.{anyDropped?, dropVertex, go, sweep, swept, undecided}
+use Rattle.sweep_model.specs.Sweep.{anyDropped?, dropVertex, go, on, start, sweep, swept, turnsLeft, undecided}
 use Rattle.sweep_model.specs.declared.Cause.the-variants.{Idle}
 use Rattle.truth.proofs.Booleans.{clash}
 use lib.ListN.{length}
@@ -86,6 +87,11 @@ module _ {p : Problem} {entry : List ℕ} (fit : Fit p entry) where
         none-waits = pick-none p (s .stages) (q .none-waits);
         none-starves = q .reached .kept;
       }
+
+  -- Where the start goes on and the turns end without a verdict, none waits and no vertex starves.
+  pub turns-rest : (s t : State) → start p entry ≡ on s → go p s ≡ on t → Rest p entry t
+  unfolding go
+  turns-rest s t e f = quiet-rest (claim-on (go-claim fit no-starving (turnsLeft (s .stages)) s (claim-on (start-claim fit no-starving) e)) f)
 
   -- So it is after Size and Idle.
   pub sweep-rests : Resting (sweep p entry .verdict) → Rest p entry (sweep p entry .left)
