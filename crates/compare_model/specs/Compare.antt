@@ -2,6 +2,7 @@
 use Prim.Native.Nat.{_*_, _+_, ℕ}
 use Rattle.aig.specs.Lookup.{ownWords}
 use Rattle.compare_model.specs.Said.{Said, undecidedBy}
+use Rattle.compare_model.specs.declared.Limits.{Limits as Asked}
 use Rattle.sweep_model.specs.Normalise.{resolve}
 use Rattle.sweep_model.specs.State.{Limits, Problem}
 use Rattle.sweep_model.specs.Sweep.{Result, Verdict, different, equal, sweep, undecided}
@@ -12,6 +13,10 @@ use lib.Dec.{eqb, leb, ltb}
 use lib.ListN.{drop, getD, length, take}
 use mathlib.Core.Bool.{Bool, _||_, cond, not}
 use mathlib.Core.List.{List, [], _++_, _∷_, map}
+
+-- The three limits that a call is given. (RULES 2.4)
+abbrev pub limitsOf : Asked → Limits
+limitsOf l = record { size = l .size; rows = l .rows; steps = l .steps }
 
 -- The lengths of the working slices: four of words, and the rows.
 pub record CompareRoom : Type 0 where

@@ -1,8 +1,8 @@
 // The refusals of compare: 10 to 15.
 use compare_model::Limits;
 ghost use Prim.Native.Nat.{_<_, _^_};
-ghost use Rattle.compare_model.specs.Compare.{beyond?, callTests, outside?, shortSlice?};
-ghost use Rattle.compare_parts.specs.code.Code.{limitsOf, roomOf};
+ghost use Rattle.compare_model.specs.Compare.{beyond?, callTests, limitsOf, outside?, shortSlice?};
+ghost use Rattle.compare_parts.specs.code.Code.{roomOf};
 ghost use Rattle.table.specs.Accepted.{WellFormed};
 ghost use Rattle.table.specs.Refusals.{firstRefusal};
 ghost use Rattle.table.specs.Table.{tableTests};

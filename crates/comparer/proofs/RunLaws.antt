@@ -2,10 +2,9 @@
 use Prim.Native.Nat.{_*_, _<_, _≤_, ℕ}
 use Rattle.bdd.proofs.StoreLaws.{store-length}
 use Rattle.compare_model.proofs.GraphLaws.{count-vertices, fits, length-graph}
-use Rattle.compare_model.specs.Compare.{answerTo, graphWords, overFront, problemOf}
+use Rattle.compare_model.specs.Compare.{answerTo, graphWords, limitsOf, overFront, problemOf}
 use Rattle.compare_model.specs.Passed.{Enough, LimitsWithin}
 use Rattle.compare_model.specs.declared.Limits.{Limits}
-use Rattle.compare_parts.specs.code.Code.{limitsOf}
 use Rattle.comparer.specs.Lent.{given, holding, roomOfLists}
 use Rattle.comparer.specs.code.Work.{Posed, SweepRan}
 use Rattle.sweep_parts.specs.code.Ending.{verdictOf}

@@ -1,9 +1,8 @@
 -- The slices that compare is lent, and what it promises of them.
 use Prim.Native.Nat.{ℕ}
-use Rattle.compare_model.specs.Compare.{CompareRoom, Given, Left, compared, refusalOf}
+use Rattle.compare_model.specs.Compare.{CompareRoom, Given, Left, compared, limitsOf, refusalOf}
 use Rattle.compare_model.specs.Said.{Said, saidOf}
 use Rattle.compare_model.specs.declared.Limits.{Limits as Asked}
-use Rattle.compare_parts.specs.code.Code.{limitsOf}
 use Rattle.sweep_model.specs.declared.Reply.{Reply}
 use denote.Ref.{RefT, now}
 use denote.Triple.Both.{Both}

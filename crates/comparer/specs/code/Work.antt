@@ -1,9 +1,8 @@
 -- What the parts of a comparison that is not refused give each other: the sweep's task, how it ended, and what follows it.
 use Prim.Native.Nat.{_*_, _≤_, ℕ}
 use Rattle.bdd.specs.code.Store.{Store}
-use Rattle.compare_model.specs.Compare.{Given, answerTo, maxRows, maxSteps, overFront, problemOf}
+use Rattle.compare_model.specs.Compare.{Given, answerTo, limitsOf, maxRows, maxSteps, overFront, problemOf}
 use Rattle.compare_model.specs.declared.Limits.{Limits as Asked}
-use Rattle.compare_parts.specs.code.Code.{limitsOf}
 use Rattle.comparer.specs.Lent.{Slices, given}
 use Rattle.sweep_parts.specs.code.Ending.{Refers, verdictOf}
 use Rattle.sweep_parts.specs.code.Words.{posed}

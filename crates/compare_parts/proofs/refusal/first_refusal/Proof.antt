@@ -1,9 +1,9 @@
 -- The refusals of the table, then the others; no loop.
 -- Where the table is accepted, the tests after its own decide.
-use Rattle.compare_model.specs.Compare.{callTests}
+use Rattle.compare_model.specs.Compare.{callTests, limitsOf}
 use Rattle.compare_parts.proofs.refusal.first_refusal.Statement.{statement}
 use Rattle.compare_parts.proofs.refusal.first_refusal.Tie as tie
-use Rattle.compare_parts.specs.code.Code.{limitsOf, roomOf}
+use Rattle.compare_parts.specs.code.Code.{roomOf}
 use Rattle.table.proofs.AcceptedLaws.{accepted}
 use Rattle.table.proofs.RefusalLaws.{refused-first, table-passed}
 use Rattle.table.specs.Table.{tableTests}
