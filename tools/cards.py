@@ -1,7 +1,7 @@
 #!/usr/bin/env python3
 """cards.py COMPARISONS CRATE
 
-Writes CRATE/data/cards.txt, the cards that the program `cards` runs, and CRATE/stdout, what it prints when all are right.
+Writes CRATE/data/cards.txt, the cards that the program `run_cards` runs, and CRATE/stdout, what it prints when all are right.
 The cards are those of docs/RULES.md 11.7 and 13.3, then every line of COMPARISONS (tools/comparisons.tsv).
 
 COMPARISONS has a line for each comparison, with tabs between: list, left, right (lines parted by `;`, fields by `,`),

@@ -1,7 +1,7 @@
 #!/usr/bin/env python3
 """graphs.py COMPARISONS CRATE
 
-Writes CRATE/data/graphs.txt, the sweeps that the program `sweep_cases` runs, and CRATE/stdout, what it must print.
+Writes CRATE/data/graphs.txt, the sweeps that the program `run_sweep` runs, and CRATE/stdout, what it must print.
 
 COMPARISONS (tools/comparisons.tsv) has a line for each comparison, with tabs between: list, left, right (lines parted by `;`,
 fields by `,`), output, size limit, row limit, step limit, then what must come: reply, vertex, setting, rows, steps, marks (a digit
