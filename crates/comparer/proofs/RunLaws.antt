@@ -74,7 +74,7 @@ module _ (table : List ℕ) (output : ℕ) (limits : Limits) (accepted : Accepte
           modest = omega (arith, task .size, within .size .bounded);
           most = omega (arith, task .rows, within .rows .bounded);
           short = omega (arith, task .steps, within .steps .bounded);
-          places-long = omega (arith, task .count, room .look);
+          look-long = omega (arith, task .count, room .look);
           diagrams-long = omega (arith, task .count, room .diagrams);
           stages-long = omega (arith, task .count, room .stages);
           rows-long = omega (arith, task .rows, room .diagram-rows);

@@ -97,14 +97,14 @@ module _ (t : Task) (pairs : List ℕ) (h : Asked t pairs) where
   has-functions = record { fit = fit; count = count }
 
   -- The other slices, long enough.
-  module _ (places diagrams stages rows marks : List ℕ) where
+  module _ (look diagrams stages rows marks : List ℕ) where
     abbrev before : Workspace
     before = workspace pairs (arrays diagrams stages rows marks)
 
     -- The sweep can be asked.
-    pub asked : 2 * VERTICES ≤ length places → 2 * VERTICES ≤ length diagrams → 2 * VERTICES ≤ length stages → 4 * LIMIT ≤ length rows → VERTICES ≤ length marks
-        → SweepAsked t places before
-    asked places-long diagrams-long stages-long rows-long marks-long =
+    pub asked : 2 * VERTICES ≤ length look → 2 * VERTICES ≤ length diagrams → 2 * VERTICES ≤ length stages → 4 * LIMIT ≤ length rows → VERTICES ≤ length marks
+        → SweepAsked t look before
+    asked look-long diagrams-long stages-long rows-long marks-long =
         record {
           functions = functions;
           has-functions = has-functions;
@@ -113,7 +113,7 @@ module _ (t : Task) (pairs : List ℕ) (h : Asked t pairs) where
           modest = omega (arith, h .limited .size .1);
           most = h .limited .rows .1;
           short = omega (arith, h .limited .steps .1);
-          places-long = omega (arith, h .named .count);
+          look-long = omega (arith, h .named .count);
           diagrams-long = omega (arith, h .named .count);
           stages-long = omega (arith, h .named .count);
           rows-long = omega (arith, h .limited .rows .1);

@@ -30,7 +30,7 @@ fn main() {
 
 fn sweep_all(file: &[u8]) {
     let mut pairs = [0u32; WORDS];
-    let mut places = [0u32; WORDS];
+    let mut look = [0u32; WORDS];
     let mut diagrams = [0u32; WORDS];
     let mut stages = [0u32; WORDS];
     let mut rows = [0u32; ROWS_ROOM];
@@ -40,7 +40,7 @@ fn sweep_all(file: &[u8]) {
         sweep_card(
             card(file, k),
             &mut pairs,
-            &mut places,
+            &mut look,
             &mut diagrams,
             &mut stages,
             &mut rows,
@@ -53,7 +53,7 @@ fn sweep_all(file: &[u8]) {
 fn sweep_card(
     card: &[u8],
     pairs: &mut [u32; WORDS],
-    places: &mut [u32; WORDS],
+    look: &mut [u32; WORDS],
     diagrams: &mut [u32; WORDS],
     stages: &mut [u32; WORDS],
     rows: &mut [u32; ROWS_ROOM],
@@ -62,7 +62,7 @@ fn sweep_card(
     let task = asked::task_of(card);
     graph::read_words(field(card, 9), pairs);
     if asked::is_asked(task, pairs) {
-        show_sweep(list, task, pairs, places, diagrams, stages, rows);
+        show_sweep(list, task, pairs, look, diagrams, stages, rows);
     } else {
         io::write_all(STDOUT_FILENO, b"refused\n");
     }
@@ -72,7 +72,7 @@ fn show_sweep(
     list: u32,
     task: Task,
     pairs: &mut [u32; WORDS],
-    places: &mut [u32; WORDS],
+    look: &mut [u32; WORDS],
     diagrams: &mut [u32; WORDS],
     stages: &mut [u32; WORDS],
     rows: &mut [u32; ROWS_ROOM],
@@ -80,7 +80,7 @@ fn show_sweep(
     requires { ⌜ Asked task (now pairs) ⌝ }
 {
     let mut marks = no_marks();
-    let ended = sweep::sweep(pairs, places, diagrams, stages, rows, &mut marks, task);
+    let ended = sweep::sweep(pairs, look, diagrams, stages, rows, &mut marks, task);
     show::show_reply(list, ended, rows, task);
     show::show_marks(&marks, task.count as usize);
     show::show_rows(pairs, task.first, task.count);

@@ -43,7 +43,7 @@ module _ (t : Task) (used steps : ℕ) (b after : Workspace) {g : Going} (goes :
 module _ (t : Task) (b middle : Workspace) {g : Going} (starts : Starts t b middle g) where
   module _ {used steps : ℕ} (h : g ≡ On used steps) where
     -- The first turn can begin.
-    pub start-rests : {places : List ℕ} → SweepAsked t places b → RestIn t used steps middle
+    pub start-rests : {look : List ℕ} → SweepAsked t look b → RestIn t used steps middle
     start-rests a =
         record {
           context = firstContext t (a .functions) (b .pairs) middle used steps;

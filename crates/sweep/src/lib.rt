@@ -17,7 +17,7 @@ ghost use lib.ListN.{length};
 // The turns, and where they come to rest the cause.
 fn finish(
     pairs: &mut [u32],
-    places: &mut [u32],
+    look: &mut [u32],
     diagrams: &mut [u32],
     stages: &mut [u32],
     rows: &mut [u32],
@@ -27,12 +27,12 @@ fn finish(
     steps: usize,
 ) -> Ended
     requires rest { ⌜ RestIn task used steps (workspace (now pairs) (arrays (now diagrams) (now stages) (now rows) (now marks))) ⌝ }
-    requires long { ⌜ 2 * task .count ≤ length (now places) ⌝ }
+    requires long { ⌜ 2 * task .count ≤ length (now look) ⌝ }
     ensures { λ r. ⌜ Rests task used steps (workspaces pairs diagrams stages rows marks .entry) (workspaces pairs diagrams stages rows marks .exit) r ⌝ }
 {
     let going = go(
         pairs,
-        places,
+        look,
         diagrams,
         stages,
         rows,
@@ -54,21 +54,21 @@ fn finish(
 // The sweep of a working graph: pairs hold its rows, the other slices are worked in.
 pub fn sweep(
     pairs: &mut [u32],
-    places: &mut [u32],
+    look: &mut [u32],
     diagrams: &mut [u32],
     stages: &mut [u32],
     rows: &mut [u32],
     marks: &mut [u8],
     task: Task,
 ) -> Ended
-    requires { ⌜ SweepAsked task (now places) (workspace (now pairs) (arrays (now diagrams) (now stages) (now rows) (now marks))) ⌝ }
+    requires { ⌜ SweepAsked task (now look) (workspace (now pairs) (arrays (now diagrams) (now stages) (now rows) (now marks))) ⌝ }
     ensures { λ r. ⌜ Sweeps task (workspaces pairs diagrams stages rows marks .entry) (workspaces pairs diagrams stages rows marks .exit) r ⌝ }
 {
-    let started = start(pairs, places, diagrams, stages, rows, marks, task);
+    let started = start(pairs, look, diagrams, stages, rows, marks, task);
     match started {
         Going::On { used, steps } => finish(
             pairs,
-            places,
+            look,
             diagrams,
             stages,
             rows,

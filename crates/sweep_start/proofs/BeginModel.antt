@@ -161,11 +161,11 @@ afterNothing t functions s = andThen (giveInputs (posed t functions) 1 (t .first
 
 module _ (t : Task) (b middle : Workspace) (prepares : Prepares t b middle) where
   -- What looking needs is there, after the first normalising.
-  pub prepared-looks : {places : List ℕ} → SweepAsked t places b → Looks t (middle .pairs) (middle .arrays .diagrams) (middle .arrays .stages)
+  pub prepared-looks : {look : List ℕ} → SweepAsked t look b → Looks t (middle .pairs) (middle .arrays .diagrams) (middle .arrays .stages)
   prepared-looks h = looks (prepares (h .functions) (h .has-functions) .prepared .represents)
 
   -- What giving the inputs needs is there.
-  pub prepared-giving : {places : List ℕ} → SweepAsked t places b → GivingIn t middle
+  pub prepared-giving : {look : List ℕ} → SweepAsked t look b → GivingIn t middle
   prepared-giving h = record { functions = h .functions; entry = b .pairs; prepared = prepares (h .functions) (h .has-functions) .prepared }
 
   module _ {seen : Seen} (es : seen ≡ seenBy t (middle .pairs) (middle .arrays .diagrams) (middle .arrays .stages)) where

@@ -54,7 +54,7 @@ begun-has stages count v h e =
 abbrev pub workspaceWith : List ℕ → Held → List ℕ → Workspace
 workspaceWith pairs h marks = workspace pairs (arrays (h .diagrams) (h .stages) (h .rows) marks)
 
-module _ {t : Task} {places : List ℕ} {b : Workspace} (q : SweepAsked t places b) where
+module _ {t : Task} {look : List ℕ} {b : Workspace} (q : SweepAsked t look b) where
   -- The working graph.
   pub start-graph : Graph (t .first) (t .count) (b .pairs)
   start-graph = sound-graph (q .has-functions .fit .well-formed) (q .has-functions .count) (q .few) (q .has-functions .fit .sound)

@@ -8,7 +8,6 @@ use sweep_graph::take::takes;
 use sweep_model::Cause;
 use sweep_parts::end::End;
 use sweep_parts::look::Seen;
-use sweep_parts::look::look;
 use sweep_parts::task::Task;
 use sweep_turn::visit::Going;
 use sweep_turn::visit::after_look;
@@ -19,19 +18,19 @@ ghost use Rattle.sweep_start.specs.code.Start.{GivesInputs, GivingIn, Pr
 // No row is used, no vertex but the constant has a diagram, all marks are 0; and the rows of the graph are normalised.
 fn prepare(
     pairs: &mut [u32],
-    places: &mut [u32],
+    look: &mut [u32],
     diagrams: &mut [u32],
     stages: &mut [u32],
     rows: &mut [u32],
     marks: &mut [u8],
     task: Task,
 )
-    requires { ⌜ SweepAsked task (now places) (workspace (now pairs) (arrays (now diagrams) (now stages) (now rows) (now marks))) ⌝ }
+    requires { ⌜ SweepAsked task (now look) (workspace (now pairs) (arrays (now diagrams) (now stages) (now rows) (now marks))) ⌝ }
     ensures { λ _. ⌜ Prepares task (workspaces pairs diagrams stages rows marks .entry) (workspaces pairs diagrams stages rows marks .exit) ⌝ }
 {
     clear(rows, task.rows);
     begin(stages, diagrams, marks, task.count);
-    normalise(pairs, places, task.first, task.count);
+    normalise(pairs, look, task.first, task.count);
     takes(&pairs[..], stages, diagrams, rows, task.first, task.count);
 }
 
@@ -50,7 +49,7 @@ fn give_inputs(
     let inputs = give_rows(diagrams, stages, rows, marks, task, 0);
     match inputs {
         Inputs::All(used) => {
-            let seen = look(pairs, &diagrams[..], &stages[..], task);
+            let seen = sweep_parts::look::look(pairs, &diagrams[..], &stages[..], task);
             after_look(seen, used, 0)
         }
         Inputs::Short(v, used) => Going::Ended {
@@ -64,18 +63,18 @@ fn give_inputs(
 // The graph is normalised and looked at; if nothing is decided, each input gets its row.
 pub fn start(
     pairs: &mut [u32],
-    places: &mut [u32],
+    look: &mut [u32],
     diagrams: &mut [u32],
     stages: &mut [u32],
     rows: &mut [u32],
     marks: &mut [u8],
     task: Task,
 ) -> Going
-    requires { ⌜ SweepAsked task (now places) (workspace (now pairs) (arrays (now diagrams) (now stages) (now rows) (now marks))) ⌝ }
+    requires { ⌜ SweepAsked task (now look) (workspace (now pairs) (arrays (now diagrams) (now stages) (now rows) (now marks))) ⌝ }
     ensures { λ r. ⌜ Starts task (workspaces pairs diagrams stages rows marks .entry) (workspaces pairs diagrams stages rows marks .exit) r ⌝ }
 {
-    prepare(pairs, places, diagrams, stages, rows, marks, task);
-    let seen = look(&pairs[..], &diagrams[..], &stages[..], task);
+    prepare(pairs, look, diagrams, stages, rows, marks, task);
+    let seen = sweep_parts::look::look(&pairs[..], &diagrams[..], &stages[..], task);
     match seen {
         Seen::Nothing => give_inputs(&pairs[..], diagrams, stages, rows, marks, task),
         Seen::Decided(end) => Going::Ended {

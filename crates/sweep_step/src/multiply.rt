@@ -3,7 +3,6 @@ use crate::settle::settle;
 use product::Product;
 use sweep_parts::drop::break_off;
 use sweep_parts::look::Seen;
-use sweep_parts::look::look;
 use sweep_parts::operands::take_product;
 use sweep_parts::task::Task;
 ghost use Prim.Native.Nat.{_*_, _≤_};
@@ -33,7 +32,7 @@ pub enum Step {
 // The product of vertex v is done, with its reference: it is dropped or met, and the two literals are looked at.
 fn conclude(
     pairs: &mut [u32],
-    places: &mut [u32],
+    look: &mut [u32],
     diagrams: &mut [u32],
     stages: &mut [u32],
     rows: &mut [u32],
@@ -46,12 +45,12 @@ fn conclude(
     steps: usize,
 ) -> Step
     requires ended { ⌜ EndedIn task v reference used kept (workspace (now pairs) (arrays (now diagrams) (now stages) (now rows) (now marks))) ⌝ }
-    requires long { ⌜ 2 * task .count ≤ length (now places) ⌝ }
+    requires long { ⌜ 2 * task .count ≤ length (now look) ⌝ }
     ensures { λ r. ⌜ Concludes task v reference used kept steps (workspaces pairs diagrams stages rows marks .entry) (workspaces pairs diagrams stages rows marks .exit) r ⌝ }
 {
     let left = settle(
         pairs,
-        places,
+        look,
         diagrams,
         stages,
         rows,
@@ -62,7 +61,7 @@ fn conclude(
         used,
         kept,
     );
-    let seen = look(&pairs[..], &diagrams[..], &stages[..], task);
+    let seen = sweep_parts::look::look(&pairs[..], &diagrams[..], &stages[..], task);
     Step::Looked {
         seen,
         used: left,
@@ -73,7 +72,7 @@ fn conclude(
 // The product of v's operands is taken; it is dropped or met and the two literals are looked at, or it is broken off.
 pub fn multiply(
     pairs: &mut [u32],
-    places: &mut [u32],
+    look: &mut [u32],
     diagrams: &mut [u32],
     stages: &mut [u32],
     rows: &mut [u32],
@@ -84,7 +83,7 @@ pub fn multiply(
     steps: usize,
 ) -> Step
     requires due { ⌜ DueIn task v used steps (workspace (now pairs) (arrays (now diagrams) (now stages) (now rows) (now marks))) ⌝ }
-    requires long { ⌜ 2 * task .count ≤ length (now places) ⌝ }
+    requires long { ⌜ 2 * task .count ≤ length (now look) ⌝ }
     ensures { λ r. ⌜ Takes task v used steps (workspaces pairs diagrams stages rows marks .entry) (workspaces pairs diagrams stages rows marks .exit) r ⌝ }
 {
     let product = take_product(&pairs[..], &diagrams[..], rows, task, v, used, steps);
@@ -95,7 +94,7 @@ pub fn multiply(
             steps,
         } => conclude(
             pairs,
-            places,
+            look,
             diagrams,
             stages,
             rows,

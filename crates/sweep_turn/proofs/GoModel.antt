@@ -100,25 +100,25 @@ module _ {t : Task} {x : Context} {used steps : ℕ} {b : Workspace} (o : RestOn
         (go-turns (posed t (x .functions)) (leftAfter t x v used steps b .turns) (stateOn t b used steps) v (pick-model (sym e)))
 
 -- What the loop keeps: the last scan has come to its end, the model goes on as it went at first, and the lengths are those at first.
-pub record Turning (t : Task) (used₀ steps₀ : ℕ) (b₀ : Workspace) (places₀ : List ℕ) (used steps : ℕ) (b : Workspace) (places : List ℕ) : Type 0 where
+pub record Turning (t : Task) (used₀ steps₀ : ℕ) (b₀ : Workspace) (look₀ : List ℕ) (used steps : ℕ) (b : Workspace) (look : List ℕ) : Type 0 where
   pub here : (x : Context) → RestOn t x used₀ steps₀ b₀ → RestOn t (nowLeft t x used steps b) used steps b
   pub ahead : (x : Context) → RestOn t x used₀ steps₀ b₀ → goneFrom t x used steps b ≡ gone t x used₀ steps₀ b₀
   pub same : SameLengths b₀ b
-  pub same-places : length places ≡ length places₀
+  pub same-look : length look ≡ length look₀
 
 -- It holds at first.
-pub turns-begin : {t : Task} {used steps : ℕ} {b : Workspace} {places : List ℕ} → Turning t used steps b places used steps b places
+pub turns-begin : {t : Task} {used steps : ℕ} {b : Workspace} {look : List ℕ} → Turning t used steps b look used steps b look
 turns-begin =
     record {
       here = λ x o. rests-now o;
       ahead = λ x o. sym (any-bound o);
       same = record { pairs = refl; diagrams = refl; stages = refl; rows = refl; marks = refl };
-      same-places = refl;
+      same-look = refl;
     }
 
 module _
-    {t : Task} {used₀ steps₀ : ℕ} {b₀ : Workspace} {places₀ : List ℕ} {used steps : ℕ} {b : Workspace} {places : List ℕ}
-    (s : Turning t used₀ steps₀ b₀ places₀ used steps b places) where
+    {t : Task} {used₀ steps₀ : ℕ} {b₀ : Workspace} {look₀ : List ℕ} {used steps : ℕ} {b : Workspace} {look : List ℕ}
+    (s : Turning t used₀ steps₀ b₀ look₀ used steps b look) where
   -- The pick has its words.
   pub pick-asks : RestIn t used₀ steps₀ b₀ → (2 * t .count ≤ length (b .arrays .stages)) × (2 * t .count ≤ length (b .arrays .diagrams))
   pick-asks i = let r = s .here (i .context) (i .on) .represents in (r .stages-long, r .diagrams-long)
@@ -139,9 +139,9 @@ module _
 
         -- It holds after the turn.
         pub turns-go-on :
-            (last : List ℕ) → SameLengths b after → length last ≡ length places → Turning t used₀ steps₀ b₀ places₀ u k after last
+            (last : List ℕ) → SameLengths b after → length last ≡ length look → Turning t used₀ steps₀ b₀ look₀ u k after last
         unfolding andThen
-        turns-go-on last same same-places =
+        turns-go-on last same same-look =
             record {
               here = λ x o.
                   rests-now (subst (Opens t v used steps b after) h opens _ (picked-opens (s .here x o) v (sym e ∙ f)) .rests);
@@ -151,7 +151,7 @@ module _
                   ∙ ap (λ (p : Progress). andThen p (goFor (posed t (x .functions)) (leftAfter t x v used steps b .turns))) (sym (r .reached))
                   ∙ sym (turn-first (s .here x o) v (sym e ∙ f)) ∙ s .ahead x o;
               same = lengths-then (s .same) same;
-              same-places = same-places ∙ s .same-places;
+              same-look = same-look ∙ s .same-look;
             }
 
       -- The turn ended the sweep.

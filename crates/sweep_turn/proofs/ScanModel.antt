@@ -41,35 +41,35 @@ lengths-then s t =
       marks = t .marks ∙ s .marks;
     }
 
-pub record Scanned (t : Task) (from used₀ steps₀ : ℕ) (b₀ : Workspace) (places₀ : List ℕ) (v used steps : ℕ) (b : Workspace) (places : List ℕ) : Type 0 where
+pub record Scanned (t : Task) (from used₀ steps₀ : ℕ) (b₀ : Workspace) (look₀ : List ℕ) (v used steps : ℕ) (b : Workspace) (look : List ℕ) : Type 0 where
   pub to : v ≤ t .count
   pub here : (x : Context) → ScanOn t x from used₀ steps₀ b₀ → ScanOn t x v used steps b
   pub ahead : (x : Context) → ScanOn t x from used₀ steps₀ b₀ → scannedFrom t x v used steps b ≡ scannedFrom t x from used₀ steps₀ b₀
   pub same : SameLengths b₀ b
-  pub same-places : length places ≡ length places₀
+  pub same-look : length look ≡ length look₀
 
 pub scan-begins :
-    {t : Task} {from used steps : ℕ} {b : Workspace} {places : List ℕ} → from ≤ t .count → Scanned t from used steps b places from used steps b places
+    {t : Task} {from used steps : ℕ} {b : Workspace} {look : List ℕ} → from ≤ t .count → Scanned t from used steps b look from used steps b look
 scan-begins h =
     record {
       to = h;
       here = λ x o. o;
       ahead = λ x o. refl;
       same = record { pairs = refl; diagrams = refl; stages = refl; rows = refl; marks = refl };
-      same-places = refl;
+      same-look = refl;
     }
 
 module _
-    {t : Task} {from used₀ steps₀ : ℕ} {b₀ : Workspace} {places₀ : List ℕ} {v used steps : ℕ} {b : Workspace} {places : List ℕ}
-    (s : Scanned t from used₀ steps₀ b₀ places₀ v used steps b places) where
+    {t : Task} {from used₀ steps₀ : ℕ} {b₀ : Workspace} {look₀ : List ℕ} {v used steps : ℕ} {b : Workspace} {look : List ℕ}
+    (s : Scanned t from used₀ steps₀ b₀ look₀ v used steps b look) where
   pub scan-asks : ScanIn t from used₀ steps₀ b₀ → ScanIn t v used steps b
   scan-asks i = record { context = i .context; here = s .here (i .context) (i .here) }
 
   pub scan-goes-on :
       (after : Workspace) (last : List ℕ) {g : Going} {u k : ℕ} → v < t .count → g ≡ On u k → Visits t v used steps b after g → SameLengths b after
-      → length last ≡ length places → Scanned t from used₀ steps₀ b₀ places₀ (v + 1) u k after last
+      → length last ≡ length look → Scanned t from used₀ steps₀ b₀ look₀ (v + 1) u k after last
   unfolding andThen
-  scan-goes-on after last {u = u} {k = k} h e visits same same-places =
+  scan-goes-on after last {u = u} {k = k} h e visits same same-look =
       let went = subst (Visits t v used steps b after) e visits in
       rw (add-one v)
       (record {
@@ -79,7 +79,7 @@ module _
             ap (λ (p : Progress). andThen p (scanFrom (posed t (x .functions)) (suc v) (t .count - suc v))) (sym (went x (s .here x o) .reached))
             ∙ sym (scan-turn t x v used steps b h) ∙ s .ahead x o;
         same = lengths-then (s .same) same;
-        same-places = same-places ∙ s .same-places;
+        same-look = same-look ∙ s .same-look;
       })
 
   pub scan-stops :

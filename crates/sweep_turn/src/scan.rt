@@ -11,7 +11,7 @@ ghost use lib.ListN.{length};
 
 pub fn scan(
     pairs: &mut [u32],
-    places: &mut [u32],
+    look: &mut [u32],
     diagrams: &mut [u32],
     stages: &mut [u32],
     rows: &mut [u32],
@@ -22,7 +22,7 @@ pub fn scan(
     steps: usize,
 ) -> Going
     requires scan { ⌜ ScanIn task from used steps (workspace (now pairs) (arrays (now diagrams) (now stages) (now rows) (now marks))) ⌝ }
-    requires long { ⌜ (from ≤ task .count) × (2 * task .count ≤ length (now places)) ⌝ }
+    requires long { ⌜ (from ≤ task .count) × (2 * task .count ≤ length (now look)) ⌝ }
     ensures { λ r. ⌜ Scans task from used steps (workspaces pairs diagrams stages rows marks .entry) (workspaces pairs diagrams stages rows marks .exit) r ⌝ }
 {
     let count = task.count;
@@ -32,7 +32,7 @@ pub fn scan(
     while v < count {
         let going = visit(
             pairs,
-            places,
+            look,
             diagrams,
             stages,
             rows,

@@ -15,7 +15,7 @@ ghost use lib.ListN.{length};
 // Vertex v opens, and every higher vertex is visited.
 fn open(
     pairs: &mut [u32],
-    places: &mut [u32],
+    look: &mut [u32],
     diagrams: &mut [u32],
     stages: &mut [u32],
     rows: &mut [u32],
@@ -26,13 +26,13 @@ fn open(
     steps: usize,
 ) -> Going
     requires opening { ⌜ OpenIn task v used steps (workspace (now pairs) (arrays (now diagrams) (now stages) (now rows) (now marks))) ⌝ }
-    requires long { ⌜ 2 * task .count ≤ length (now places) ⌝ }
+    requires long { ⌜ 2 * task .count ≤ length (now look) ⌝ }
     ensures { λ r. ⌜ Opens task v used steps (workspaces pairs diagrams stages rows marks .entry) (workspaces pairs diagrams stages rows marks .exit) r ⌝ }
 {
     set_stage(stages, v, OPENED);
     scan(
         pairs,
-        places,
+        look,
         diagrams,
         stages,
         rows,
@@ -47,7 +47,7 @@ fn open(
 // Turns until the sweep ends or none waits.
 pub fn go(
     pairs: &mut [u32],
-    places: &mut [u32],
+    look: &mut [u32],
     diagrams: &mut [u32],
     stages: &mut [u32],
     rows: &mut [u32],
@@ -57,7 +57,7 @@ pub fn go(
     steps: usize,
 ) -> Going
     requires rest { ⌜ RestIn task used steps (workspace (now pairs) (arrays (now diagrams) (now stages) (now rows) (now marks))) ⌝ }
-    requires long { ⌜ 2 * task .count ≤ length (now places) ⌝ }
+    requires long { ⌜ 2 * task .count ≤ length (now look) ⌝ }
     ensures { λ r. ⌜ Goes task used steps (workspaces pairs diagrams stages rows marks .entry) (workspaces pairs diagrams stages rows marks .exit) r ⌝ }
 {
     let mut more = used;
@@ -68,7 +68,7 @@ pub fn go(
             Picked::At(v) => {
                 let going = open(
                     pairs,
-                    places,
+                    look,
                     diagrams,
                     stages,
                     rows,

@@ -79,7 +79,7 @@ fn after_product(step: Step, v: u32) -> Going
 // Vertex v, if it is ready, has its product taken.
 pub fn visit(
     pairs: &mut [u32],
-    places: &mut [u32],
+    look: &mut [u32],
     diagrams: &mut [u32],
     stages: &mut [u32],
     rows: &mut [u32],
@@ -90,13 +90,13 @@ pub fn visit(
     steps: usize,
 ) -> Going
     requires scan { ⌜ ScanIn task v used steps (workspace (now pairs) (arrays (now diagrams) (now stages) (now rows) (now marks))) ⌝ }
-    requires long { ⌜ (v < task .count) × (2 * task .count ≤ length (now places)) ⌝ }
+    requires long { ⌜ (v < task .count) × (2 * task .count ≤ length (now look)) ⌝ }
     ensures { λ r. ⌜ Visits task v used steps (workspaces pairs diagrams stages rows marks .entry) (workspaces pairs diagrams stages rows marks .exit) r ⌝ }
 {
     if is_ready(&pairs[..], &stages[..], task, v) {
         let step = multiply(
             pairs,
-            places,
+            look,
             diagrams,
             stages,
             rows,

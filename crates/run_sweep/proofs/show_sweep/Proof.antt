@@ -19,7 +19,7 @@ sweep-requires c κs =
     let marks = c .before .before .before .before .before .before .no-marks in
     let start = c .before .before .before .before .before .before .before in
     let a = start .args in
-    asked (a .task) (a .pairs .now) (start .pre) (a .places .now) (a .diagrams .now) (a .stages .now) (a .rows .now) (marks .result) (search needs)
+    asked (a .task) (a .pairs .now) (start .pre) (a .look .now) (a .diagrams .now) (a .stages .now) (a .rows .now) (marks .result) (search needs)
     (search needs) (search needs) (search needs) (omega (arith, marks .ensures))
 
 show-reply-requires : tie.Need-show-reply-requires
@@ -31,7 +31,7 @@ show-reply-requires c κs =
     let l = swept .last in
     let after : Workspace = workspace (l .0) (arrays (l .1 .1 .0) (l .1 .1 .1 .0) (l .1 .1 .1 .1 .0) (l .1 .1 .1 .1 .1 .0)) in
     let e =
-    closed (a .task) (a .pairs .now) (start .pre) (a .places .now) (a .diagrams .now) (a .stages .now) (a .rows .now) (marks .result) after
+    closed (a .task) (a .pairs .now) (start .pre) (a .look .now) (a .diagrams .now) (a .stages .now) (a .rows .now) (marks .result) after
     (swept .result) (swept .ensures)
     in
     (e .store, (e .refers, (omega (arith, e .counted, start .pre .limited .steps .1), start .pre .named .inputs)))

@@ -6,10 +6,10 @@ use Rattle.run_sweep.proofs.sweep_all.Tie as tie
 use borrow.Author.Needs.{needs}
 
 abbrev Inv-loop : tie.InvT-loop
-Inv-loop file pairs₀ places₀ diagrams₀ stages₀ rows₀ count k₀ pairs places diagrams stages rows k = Unit {0}
+Inv-loop file pairs₀ look₀ diagrams₀ stages₀ rows₀ count k₀ pairs look diagrams stages rows k = Unit {0}
 
 abbrev μ-loop : tie.MeasureT-loop
-μ-loop file pairs₀ places₀ diagrams₀ stages₀ rows₀ count k₀ pairs places diagrams stages rows k = count - k
+μ-loop file pairs₀ look₀ diagrams₀ stages₀ rows₀ count k₀ pairs look diagrams stages rows k = count - k
 
 card-count-requires : tie.Need-card-count-requires Inv-loop μ-loop
 card-count-requires c κs = search needs

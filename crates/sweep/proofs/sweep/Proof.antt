@@ -22,7 +22,7 @@ finish-requires c κs =
           (workspace (start .args .pairs .now) (arrays (start .args .diagrams .now) (start .args .stages .now) (start .args .rows .now) (start .args .marks .now)))
           (workspace (begun .last .0) (arrays (begun .last .1 .1 .0) (begun .last .1 .1 .1 .0) (begun .last .1 .1 .1 .1 .0) (begun .last .1 .1 .1 .1 .1 .0)))
           (begun .ensures) (c .before .before .before .before .before .before .before .started .given .1) (start .pre),
-      omega (arith, start .pre .places-long),
+      omega (arith, start .pre .look-long),
     )
 
 enum-known-started-2 : tie.Need-enum-known-started-2

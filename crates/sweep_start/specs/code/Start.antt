@@ -25,7 +25,7 @@ pub record HasFunctions (t : Task) (functions : List Truth) (pairs : List ℕ) :
   pub count : length functions ≡ t .count
 
 -- What a sweep is asked: such functions are there, the limits are within theirs, and the slices are long enough.
-pub record SweepAsked (t : Task) (places : List ℕ) (b : Workspace) : Type 0 where
+pub record SweepAsked (t : Task) (look : List ℕ) (b : Workspace) : Type 0 where
   pub functions : List Truth
   pub has-functions : HasFunctions t functions (b .pairs)
   pub few : t .count ≤ RADIX
@@ -33,7 +33,7 @@ pub record SweepAsked (t : Task) (places : List ℕ) (b : Workspace) : Type 0 wh
   pub modest : t .size < 2 ^ 32
   pub most : t .rows ≤ LIMIT
   pub short : t .steps < 2 ^ 32
-  pub places-long : 2 * t .count ≤ length places
+  pub look-long : 2 * t .count ≤ length look
   pub diagrams-long : 2 * t .count ≤ length (b .arrays .diagrams)
   pub stages-long : 2 * t .count ≤ length (b .arrays .stages)
   pub rows-long : t .rows * 4 ≤ length (b .arrays .rows)

@@ -12,7 +12,7 @@ begin-requires : tie.Need-begin-requires
 begin-requires c κs = search needs
 
 normalise-requires : tie.Need-normalise-requires
-normalise-requires c κs = let asked = c .before .before .before .before .before .before .before .before .before .before .before .before .before .before .before .before .before .before .before .before .before .before .pre in (start-graph asked, asked .places-long)
+normalise-requires c κs = let asked = c .before .before .before .before .before .before .before .before .before .before .before .before .before .before .before .before .before .before .before .before .before .before .pre in (start-graph asked, asked .look-long)
 
 takes-requires : tie.Need-takes-requires
 takes-requires c κs =

@@ -50,7 +50,7 @@ returns : tie.Need-returns
 returns c =
     let give-inputs = c .before .before .before .before .before .before .before .before .give-inputs in
     let enum-told = c .before .before .before .before .before .before .before .before .before .before .before .before .before .before .enum-told in
-    let look = c .before .before .before .before .before .before .before .before .before .before .before .before .before .before .before .before .look in
+    let look = c .before .before .before .before .before .before .before .before .before .before .before .before .before .before .before .before .look2 in
     let prepare = c .before .before .before .before .before .before .before .before .before .before .before .before .before .before .before .before .before .before .before .before .before .before .before .before .before .before .before .before .before .before .before .before .prepare in
     let start = c .before .before .before .before .before .before .before .before .before .before .before .before .before .before .before .before .before .before .before .before .before .before .before .before .before .before .before .before .before .before .before .before .before .before .before .before .before .before .before .before .before .before .before .before .before in
     start-gives (start .args .task) (workspace (start .args .pairs .now) (arrays (start .args .diagrams .now) (start .args .stages .now) (start .args .rows .now) (start .args .marks .now))) (workspace (prepare .last .0) (arrays (prepare .last .1 .1 .0) (prepare .last .1 .1 .1 .0) (prepare .last .1 .1 .1 .1 .0) (prepare .last .1 .1 .1 .1 .1 .0))) (prepare .ensures) (look .ensures) (enum-told .given .1) (workspace (prepare .last .0) (arrays (give-inputs .last .1 .0) (give-inputs .last .1 .1 .0) (give-inputs .last .1 .1 .1 .0) (give-inputs .last .1 .1 .1 .1 .0))) (give-inputs .result) (give-inputs .ensures)
@@ -75,7 +75,7 @@ same-length-12 c = search needs
 
 returns-2 : tie.Need-returns-2
 returns-2 c =
-    let look = c .before .before .before .look in
+    let look = c .before .before .before .look2 in
     let prepare = c .before .before .before .before .before .before .before .before .before .before .before .before .before .before .before .before .before .before .before .prepare in
     let start = c .before .before .before .before .before .before .before .before .before .before .before .before .before .before .before .before .before .before .before .before .before .before .before .before .before .before .before .before .before .before .before .before in
     start-ends (start .args .task) (workspace (start .args .pairs .now) (arrays (start .args .diagrams .now) (start .args .stages .now) (start .args .rows .now) (start .args .marks .now))) (workspace (prepare .last .0) (arrays (prepare .last .1 .1 .0) (prepare .last .1 .1 .1 .0) (prepare .last .1 .1 .1 .1 .0) (prepare .last .1 .1 .1 .1 .1 .0))) (prepare .ensures) (look .ensures) (c .before .seen .given .1)

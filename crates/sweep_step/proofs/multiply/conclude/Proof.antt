@@ -33,7 +33,7 @@ same-length-6 : tie.Need-same-length-6
 same-length-6 c = search needs
 
 returns : tie.Need-returns
-returns c = λ x e h. conclude-looked e (c .before .before .before .before .before .before .before .before .before .before .before .before .before .before .before .before .settle .ensures x e) (c .look .ensures) h
+returns c = λ x e h. conclude-looked e (c .before .before .before .before .before .before .before .before .before .before .before .before .before .before .before .before .settle .ensures x e) (c .look2 .ensures) h
 
 pub conclude-spec : {M : Type 1} → statement M
 conclude-spec =

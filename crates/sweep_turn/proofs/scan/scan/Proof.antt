@@ -10,11 +10,11 @@ use borrow.Author.Needs.{needs}
 use native.Mathlib.Omega.{arith}
 
 abbrev Inv-loop : tie.InvT-loop
-Inv-loop pairs₀ places₀ diagrams₀ stages₀ rows₀ marks₀ task from used steps count v₀ more₀ taken₀ pairs places diagrams stages rows marks v more taken =
-    Scanned task from used steps (workspace pairs₀ (arrays diagrams₀ stages₀ rows₀ marks₀)) places₀ v more taken (workspace pairs (arrays diagrams stages rows marks)) places
+Inv-loop pairs₀ look₀ diagrams₀ stages₀ rows₀ marks₀ task from used steps count v₀ more₀ taken₀ pairs look diagrams stages rows marks v more taken =
+    Scanned task from used steps (workspace pairs₀ (arrays diagrams₀ stages₀ rows₀ marks₀)) look₀ v more taken (workspace pairs (arrays diagrams stages rows marks)) look
 
 abbrev μ-loop : tie.MeasureT-loop
-μ-loop pairs₀ places₀ diagrams₀ stages₀ rows₀ marks₀ task from used steps count v₀ more₀ taken₀ pairs places diagrams stages rows marks v more taken =
+μ-loop pairs₀ look₀ diagrams₀ stages₀ rows₀ marks₀ task from used steps count v₀ more₀ taken₀ pairs look diagrams stages rows marks v more taken =
     count - v
 
 loop-holds : tie.Need-loop-holds Inv-loop μ-loop
@@ -23,7 +23,7 @@ loop-holds c = scan-begins (c .before .before .before .before .before .before .p
 visit-requires : tie.Need-visit-requires Inv-loop μ-loop
 visit-requires c κs =
     let at = c .before .before .before .before .before .before .before .loop .inv in
-    (scan-asks at (c .before .before .before .before .before .before .before .before .before .before .before .before .before .before .pre .0), (c .before .before .before .before .before .before .loop-test .taken, omega (arith, at .same-places, c .before .before .before .before .before .before .before .before .before .before .before .before .before .before .pre .1 .1)))
+    (scan-asks at (c .before .before .before .before .before .before .before .before .before .before .before .before .before .before .pre .0), (c .before .before .before .before .before .before .loop-test .taken, omega (arith, at .same-look, c .before .before .before .before .before .before .before .before .before .before .before .before .before .before .pre .1 .1)))
 
 enum-known-going : tie.Need-enum-known-going Inv-loop μ-loop
 enum-known-going c = search needs
@@ -72,7 +72,7 @@ same-length-7 : tie.Need-same-length-7 Inv-loop μ-loop
 same-length-7 c = c .before .loop .inv .same .pairs
 
 same-length-8 : tie.Need-same-length-8 Inv-loop μ-loop
-same-length-8 c = c .before .loop .inv .same-places
+same-length-8 c = c .before .loop .inv .same-look
 
 same-length-9 : tie.Need-same-length-9 Inv-loop μ-loop
 same-length-9 c = c .before .loop .inv .same .diagrams

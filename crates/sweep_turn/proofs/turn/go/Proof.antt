@@ -11,11 +11,11 @@ use borrow.Author.Needs.{needs}
 use native.Mathlib.Omega.{arith}
 
 abbrev Inv-loop : tie.InvT-loop
-Inv-loop pairs₀ places₀ diagrams₀ stages₀ rows₀ marks₀ task used steps more₀ taken₀ pairs places diagrams stages rows marks more taken =
-    Turning task used steps (workspace pairs₀ (arrays diagrams₀ stages₀ rows₀ marks₀)) places₀ more taken (workspace pairs (arrays diagrams stages rows marks)) places
+Inv-loop pairs₀ look₀ diagrams₀ stages₀ rows₀ marks₀ task used steps more₀ taken₀ pairs look diagrams stages rows marks more taken =
+    Turning task used steps (workspace pairs₀ (arrays diagrams₀ stages₀ rows₀ marks₀)) look₀ more taken (workspace pairs (arrays diagrams stages rows marks)) look
 
 abbrev μ-loop : tie.MeasureT-loop
-μ-loop pairs₀ places₀ diagrams₀ stages₀ rows₀ marks₀ task used steps more₀ taken₀ pairs places diagrams stages rows marks more taken =
+μ-loop pairs₀ look₀ diagrams₀ stages₀ rows₀ marks₀ task used steps more₀ taken₀ pairs look diagrams stages rows marks more taken =
     turnsLeft (stagesOf stages (task .count))
 
 loop-holds : tie.Need-loop-holds Inv-loop μ-loop
@@ -31,7 +31,7 @@ open-requires : tie.Need-open-requires Inv-loop μ-loop
 open-requires c κs =
     let inv = c .before .before .before .before .before .before .before .before .before .before .before .before .loop .inv in
     let start = c .before .before .before .before .before .before .before .before .before .before .before .before .before .before .before .before .before .before .before in
-    (turn-asks inv (c .before .before .before .before .before .before .before .picked .given .1) (c .before .before .before .before .before .before .before .before .before .pick .ensures) (start .pre .0), omega (arith, inv .same-places, start .pre .1))
+    (turn-asks inv (c .before .before .before .before .before .before .before .picked .given .1) (c .before .before .before .before .before .before .before .before .before .pick .ensures) (start .pre .0), omega (arith, inv .same-look, start .pre .1))
 
 enum-known-going : tie.Need-enum-known-going Inv-loop μ-loop
 enum-known-going c = search needs
@@ -87,7 +87,7 @@ same-length-7 : tie.Need-same-length-7 Inv-loop μ-loop
 same-length-7 c = c .before .before .before .before .before .loop .inv .same .pairs
 
 same-length-8 : tie.Need-same-length-8 Inv-loop μ-loop
-same-length-8 c = c .before .before .before .before .before .loop .inv .same-places
+same-length-8 c = c .before .before .before .before .before .loop .inv .same-look
 
 same-length-9 : tie.Need-same-length-9 Inv-loop μ-loop
 same-length-9 c = c .before .before .before .before .before .loop .inv .same .diagrams
