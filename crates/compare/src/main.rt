@@ -3,7 +3,7 @@ use libc::STDERR_FILENO;
 use libc::STDOUT_FILENO;
 
 // A byte more than a file may have, so that a longer one is seen to be too long.
-const FILE_ROOM: usize = netlist::MAX_BYTES + 1;
+const FILE_ROOM: usize = netlist_model::MAX_BYTES + 1;
 
 const SETTING_ROOM: usize = table::MAX_INPUTS as usize;
 

@@ -8,9 +8,9 @@ use Rattle.load_model.proofs.Cards.{loading}
 use Rattle.load_model.specs.Build.{askAnd, askGate, askGates, buildFile, buildPair, emptyBuild, foldedOrNot, foundOrMade, literalsFrom}
 use Rattle.load_model.specs.Cards.{andFile, orFile}
 use Rattle.load_model.specs.Load.{countsDiffer?, loadResult, maxTable, readResult, shortSlice?, tableAfter, tableOf, tableWords, tallyOf}
-use Rattle.netlist.specs.Check.{below?, checkFile, checkFrom, due?, dueAfter, finish, formed?, gatesIn, header?, known?, limited?, more?, outputsIn, readBy, readNetlist}
-use Rattle.netlist.specs.Meaning.{andCount}
-use Rattle.netlist.specs.Records.{fieldsRecord, fileRecords, operationOf, recordOf, recordsOf, unended}
+use Rattle.netlist_model.specs.Check.{below?, checkFile, checkFrom, due?, dueAfter, finish, formed?, gatesIn, header?, known?, limited?, more?, outputsIn, readBy, readNetlist}
+use Rattle.netlist_model.specs.Meaning.{andCount}
+use Rattle.netlist_model.specs.Records.{fieldsRecord, fileRecords, operationOf, recordOf, recordsOf, unended}
 use Rattle.sweep_model.specs.Normalise.{foldedRow, foundRow, normalise, normaliseFrom, normaliseRow, resolve, takeAt, takesFrom, wake, wakeAt}
 use Rattle.sweep_model.specs.State.{gone?, has?}
 use Rattle.sweep_model.specs.Sweep.{andThen, begin, look, lookAt, resultOf, start, sweep}

@@ -11,7 +11,7 @@ use Rattle.demands.specs.Claims.{ReplyKept}
 use Rattle.demands.specs.Complete.{Complete, Decided, Suffice, is-different, is-equal}
 use Rattle.load_model.specs.Load.{tableOf}
 use Rattle.load_model.specs.Loadable.{Loadable}
-use Rattle.netlist.specs.Netlist.{Netlist}
+use Rattle.netlist_model.specs.Netlist.{Netlist}
 use mathlib.Core.List.{List}
 use mathlib.Core.Path.{_≡_}
 

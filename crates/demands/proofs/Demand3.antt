@@ -13,8 +13,8 @@ use Rattle.load_model.proofs.TableLaws.{table-accepted}
 use Rattle.load_model.specs.Load.{LoadRoom, accepted, loadResult, tableOf}
 use Rattle.load_model.specs.Loadable.{Loadable}
 use Rattle.load_model.specs.declared.Tally.{Tally}
-use Rattle.netlist.specs.Check.{read, readNetlist}
-use Rattle.netlist.specs.Netlist.{Netlist}
+use Rattle.netlist_model.specs.Check.{read, readNetlist}
+use Rattle.netlist_model.specs.Netlist.{Netlist}
 use mathlib.Core.List.{List}
 use mathlib.Core.Path.{_∙_, _≡_, subst₂}
 use native.Mathlib.Omega.{arith}

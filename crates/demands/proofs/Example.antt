@@ -15,10 +15,10 @@ use Rattle.load_model.specs.Build.{askAnd, askGate, askGates, buildFile, buildP
 use Rattle.load_model.specs.Cards.{andFile, room}
 use Rattle.load_model.specs.Load.{accepted, countsDiffer?, loadResult, readResult, tableOf, tableWords, tallyOf}
 use Rattle.load_model.specs.Load.{shortSlice? as shortLoad?}
-use Rattle.netlist.specs.Check.{below?, checkFile, checkFrom, due?, dueAfter, finish, formed?, gatesIn, header?, known?, limited?, more?, outputsIn, read, readBy, readNetlist}
-use Rattle.netlist.specs.Meaning.{andCount, andsFrom, fileAnds, gateAnds, operationFunction}
-use Rattle.netlist.specs.Records.{fieldsRecord, fileRecords, operationOf, recordOf, recordsOf, unended}
-use Rattle.netlist.specs.declared.records.Operation.the-variants.{And, Or}
+use Rattle.netlist_model.specs.Check.{below?, checkFile, checkFrom, due?, dueAfter, finish, formed?, gatesIn, header?, known?, limited?, more?, outputsIn, read, readBy, readNetlist}
+use Rattle.netlist_model.specs.Meaning.{andCount, andsFrom, fileAnds, gateAnds, operationFunction}
+use Rattle.netlist_model.specs.Records.{fieldsRecord, fileRecords, operationOf, recordOf, recordsOf, unended}
+use Rattle.netlist_model.specs.declared.Operation.the-variants.{And, Or}
 use Rattle.product_model.specs.Run.{_andThen_, addPart, addRow, countStep, plain, run}
 use Rattle.sweep_model.specs.Claims.{andFunction, andSteps, sum}
 use Rattle.sweep_model.specs.Normalise.{foldedRow, foundRow, normalise, normaliseFrom, normaliseRow, resolve, takeAt, takesFrom, wake, wakeAt}

@@ -13,7 +13,7 @@ use Rattle.load_model.specs.code.Functions.{rowOperands}
 use Rattle.load_model.specs.Load.{tableOf, tableWords}
 use Rattle.load_model.specs.Loadable.{Loadable}
 use Rattle.load_model.specs.code.Valued.{operandsOf}
-use Rattle.netlist.specs.Netlist.{Netlist}
+use Rattle.netlist_model.specs.Netlist.{Netlist}
 use Rattle.sweep_model.proofs.Marked.{ands-at, ands-length, marked-part}
 use Rattle.sweep_model.specs.Claims.{And, andFunction, andSteps, andsFrom, andsOf, marked, sum}
 use Rattle.sweep_model.specs.Fit.{vertexCount}

@@ -14,9 +14,9 @@ use Rattle.load_model.proofs.LoadLaws.{load-only}
 use Rattle.load_model.proofs.TableLaws.{table-accepted}
 use Rattle.load_model.specs.Load.{accepted, refused, tableAfter, tableOf}
 use Rattle.load_model.specs.Loadable.{Loadable}
-use Rattle.netlist.specs.Check.{readNetlist}
-use Rattle.netlist.specs.Limits.{edition}
-use Rattle.netlist.specs.Netlist.{Netlist}
+use Rattle.netlist_model.specs.Check.{readNetlist}
+use Rattle.netlist_model.specs.Limits.{edition}
+use Rattle.netlist_model.specs.Netlist.{Netlist}
 use Rattle.reply_line.specs.Line.{lineFor}
 use Rattle.report.specs.Report.{headLine, refusedLine, replyLine}
 use Rattle.report.specs.declared.fields.Vertex.the-variants.{None}

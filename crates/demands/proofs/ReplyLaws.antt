@@ -10,7 +10,7 @@ use Rattle.demands.proofs.FileLaws.{table-inputs, table-outputs, table-
 use Rattle.demands.specs.Claims.{Agree, ReplyKept, Separated, sideValue}
 use Rattle.load_model.specs.Load.{tableOf}
 use Rattle.load_model.specs.Loadable.{Loadable}
-use Rattle.netlist.specs.Netlist.{Netlist}
+use Rattle.netlist_model.specs.Netlist.{Netlist}
 use Rattle.sweep_model.specs.Claims.{is, isEither}
 use Rattle.table.specs.Table.{graphOf, outputValue}
 use Rattle.truth.specs.Truth.{Setting}

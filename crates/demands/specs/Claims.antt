@@ -3,8 +3,8 @@ use Prim.Native.Nat.{_<_, ℕ}
 use Rattle.compare_model.specs.Claims.{RowsKept, StepsKept, problemBy}
 use Rattle.compare_model.specs.Compare.{Given, Left, graphWords, refusalOf, settingBytes}
 use Rattle.compare_model.specs.Said.{Said}
-use Rattle.netlist.specs.Meaning.{fileAnds, fileValue}
-use Rattle.netlist.specs.Netlist.{Netlist}
+use Rattle.netlist_model.specs.Meaning.{fileAnds, fileValue}
+use Rattle.netlist_model.specs.Netlist.{Netlist}
 use Rattle.sweep_model.specs.Claims.{AfterIdle, And, AtRest, andFunction, andSteps, sum}
 use Rattle.table.specs.Table.{inputsFrom}
 use Rattle.truth.specs.Parts.{size, together}

@@ -6,8 +6,8 @@ use Rattle.demands.specs.Claims.{Agree, TooLarge, TooManyParts, TooManyS
 use Rattle.demands.specs.Demand3.{Call, Each, Ran}
 use Rattle.load_model.specs.Load.{LoadRoom, accepted, loadResult, tableOf}
 use Rattle.load_model.specs.declared.Tally.{Tally}
-use Rattle.netlist.specs.Check.{read, readNetlist}
-use Rattle.netlist.specs.Netlist.{Netlist}
+use Rattle.netlist_model.specs.Check.{read, readNetlist}
+use Rattle.netlist_model.specs.Netlist.{Netlist}
 use Rattle.sweep_model.specs.State.{Limits}
 use mathlib.Core.List.{List}
 use mathlib.Core.Path.{_≡_}

@@ -5,8 +5,8 @@ use Rattle.compare_model.specs.Compare.{Given, Left, compared, refusalOf}
 use Rattle.demands.specs.Claims.{ReplyKept, sideValue}
 use Rattle.load_model.specs.Load.{LoadRoom, accepted, loadResult, tableOf}
 use Rattle.load_model.specs.declared.Tally.{Tally}
-use Rattle.netlist.specs.Check.{read, readNetlist}
-use Rattle.netlist.specs.Netlist.{Netlist}
+use Rattle.netlist_model.specs.Check.{read, readNetlist}
+use Rattle.netlist_model.specs.Netlist.{Netlist}
 use Rattle.table.specs.Table.{graphOf, outputValue}
 use Rattle.truth.specs.Truth.{Setting}
 use lib.ListN.{length}

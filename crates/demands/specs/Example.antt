@@ -8,10 +8,10 @@ use Rattle.demands.specs.Complete.{Suffice}
 use Rattle.demands.specs.Demand3.{Call, Ran}
 use Rattle.load_model.specs.Cards.{andFile, room, withOneGate}
 use Rattle.load_model.specs.Load.{accepted, loadResult, maxTable, tableOf}
-use Rattle.netlist.specs.Check.{read, readNetlist}
-use Rattle.netlist.specs.Netlist.{Netlist}
-use Rattle.netlist.specs.declared.records.Operation.the-variants.{And, Or}
-use Rattle.netlist.specs.declared.records.Operation.{Operation}
+use Rattle.netlist_model.specs.Check.{read, readNetlist}
+use Rattle.netlist_model.specs.Netlist.{Netlist}
+use Rattle.netlist_model.specs.declared.Operation.the-variants.{And, Or}
+use Rattle.netlist_model.specs.declared.Operation.{Operation}
 use Rattle.sweep_model.specs.State.{Limits}
 use lib.ListN.{replicate}
 use mathlib.Core.List.{List, [], _∷_}

@@ -7,8 +7,8 @@ use Rattle.load_model.specs.Load.{LoadRoom, answerOf, loadResult, tableAfter}
 use Rattle.load_model.specs.declared.Loaded.the-variants.{Accepted}
 use Rattle.load_model.specs.declared.Loaded.{Loaded}
 use Rattle.load_model.specs.declared.Tally.{Tally}
-use Rattle.netlist.specs.Check.{read, readNetlist}
-use Rattle.netlist.specs.Netlist.{Netlist}
+use Rattle.netlist_model.specs.Check.{read, readNetlist}
+use Rattle.netlist_model.specs.Netlist.{Netlist}
 use mathlib.Core.List.{List}
 use mathlib.Core.Path.{_≡_}
 

@@ -7,9 +7,9 @@ use Rattle.demands.specs.Claims.{Agree, Separated}
 use Rattle.demands.specs.Demand3.{Call, Each, Holds, Ran}
 use Rattle.load_model.specs.Load.{accepted, loadResult, refused, tableOf}
 use Rattle.load_model.specs.declared.Tally.{Tally}
-use Rattle.netlist.specs.Check.{read, readNetlist}
-use Rattle.netlist.specs.Limits.{edition}
-use Rattle.netlist.specs.Netlist.{Netlist}
+use Rattle.netlist_model.specs.Check.{read, readNetlist}
+use Rattle.netlist_model.specs.Limits.{edition}
+use Rattle.netlist_model.specs.Netlist.{Netlist}
 use Rattle.reply_line.specs.Line.{lineFor}
 use Rattle.report.specs.Report.{headLine, refusedLine, replyLine}
 use Rattle.report.specs.declared.fields.Vertex.the-variants.{None}

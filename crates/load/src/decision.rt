@@ -1,7 +1,7 @@
 // Whether two files are loaded: every refusal, decided over the files and the lengths of the lent slices.
+use netlist::Checked;
+use netlist::Summary;
 use netlist::check;
-use netlist::check::Checked;
-use netlist::check::Summary;
 ghost use Rattle.load_model.specs.Load.{shortSlice?};
 ghost use Rattle.load.specs.code.Decision.{decision, pairDecision, readDecision};
 ghost use Rattle.load.specs.Lent.{roomOf};

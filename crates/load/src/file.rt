@@ -1,18 +1,18 @@
 // One file into the graph: its gates asked for, its outputs as literals of the graph.
 use aig::literal::Literal;
 use load_graph::Counts;
-use netlist::check::Summary;
-use netlist::lines;
-use netlist::records::Record;
+use netlist::Summary;
+use netlist_model::Record;
+use netlist_records::lines;
 ghost use Prim.Native.Nat.{_*_, _+_, _<_, _≤_};
 ghost use Rattle.aig.specs.Literal.{lit, vertexOf};
 ghost use Rattle.load_model.specs.Build.{askGates, buildFile, literalFor, literalsFrom};
 ghost use Rattle.load_model.specs.Load.{maxVertices};
 ghost use Rattle.load_graph.specs.code.Slices.{Graph, buildOf};
 ghost use Rattle.load.specs.code.File.{GateLine, GatesAhead, GatesPassed, OutputLine, OutputsAhead, lineGates, netlistOf, trace};
-ghost use Rattle.netlist.specs.code.Accepted.{HoldsNetlist};
-ghost use Rattle.netlist.specs.Check.{outputsIn};
-ghost use Rattle.netlist.specs.Records.{fileRecords, recordOf};
+ghost use Rattle.netlist_model.specs.code.Accepted.{HoldsNetlist};
+ghost use Rattle.netlist_model.specs.Check.{outputsIn};
+ghost use Rattle.netlist_model.specs.Records.{fileRecords, recordOf};
 ghost use Rattle.table.specs.Limits.{maxAnds, maxInputs, maxOutputs};
 ghost use Rattle.text.specs.Decimal.{written};
 ghost use Rattle.text.specs.Split.{upTo};

@@ -2,7 +2,7 @@
 use crate::decision::Decision;
 ghost use Rattle.load_model.specs.Load.{answerOf, loadResult, tableAfter};
 ghost use Rattle.load.specs.Lent.{Kept, roomIn, working};
-ghost use Rattle.netlist.specs.Check.{readNetlist};
+ghost use Rattle.netlist_model.specs.Check.{readNetlist};
 ghost use mathlib.Core.Path.{_≡_};
 
 mod decision;

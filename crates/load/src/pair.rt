@@ -3,7 +3,7 @@ use crate::file;
 use crate::layout;
 use load_graph::Counts;
 use load_model::Tally;
-use netlist::check::Summary;
+use netlist::Summary;
 ghost use Prim.Native.Nat.{_≤_};
 ghost use Rattle.load_model.specs.Load.{maxTable, tableOf, tallyOf};
 ghost use Rattle.load_graph.specs.code.Slices.{buildOf};

@@ -16,9 +16,9 @@ use Rattle.load_graph.specs.code.Slices.{Counted, Graph, buildOf, builtO
 use Rattle.load_graph.specs.declared.Counts.{Counts}
 use Rattle.load_graph.specs.declared.Ended.the-variants.{Folded, Found, Made}
 use Rattle.load_graph.specs.declared.Ended.{Ended}
-use Rattle.netlist.specs.Check.{andsOf}
-use Rattle.netlist.specs.declared.records.Operation.the-variants.{And, Or, Xor}
-use Rattle.netlist.specs.declared.records.Operation.{Operation}
+use Rattle.netlist_model.specs.Check.{andsOf}
+use Rattle.netlist_model.specs.declared.Operation.the-variants.{And, Or, Xor}
+use Rattle.netlist_model.specs.declared.Operation.{Operation}
 use Rattle.table.specs.Limits.{maxAnds}
 use lib.ListN.{length, length-set, set, take}
 use lib.Seq.{getD-take, take-suc-set}

@@ -11,8 +11,8 @@ use Rattle.load_model.specs.code.Functions.{andOf, rowOperands, vertexFu
 use Rattle.load_model.specs.code.Grown.{rowsAfter}
 use Rattle.load_model.specs.Load.{loadedGraph}
 use Rattle.load_model.specs.code.Valued.{operandsOf}
-use Rattle.netlist.specs.Meaning.{andsFrom, fileAnds, operationFunction}
-use Rattle.netlist.specs.Netlist.{Netlist}
+use Rattle.netlist_model.specs.Meaning.{andsFrom, fileAnds, operationFunction}
+use Rattle.netlist_model.specs.Netlist.{Netlist}
 use Rattle.table.proofs.FunctionLaws.{length-first-functions}
 use Rattle.table.proofs.MeaningLaws.{row-value}
 use Rattle.table.specs.Accepted.{Downward, RowBelow}

@@ -5,12 +5,12 @@ use Rattle.aig.specs.Lookup.{firstVertex, ownWords}
 use Rattle.load_model.specs.Build.{askAnd, askGate, askGates, askXor, buildFile, buildPair, emptyBuild, foldedOrNot, foundOrMade, literalsFrom}
 use Rattle.load_model.specs.Cards.{Loading, andFile, falseFile, orFile, xorFile}
 use Rattle.load_model.specs.Load.{countsDiffer?, loadResult, readResult, shortSlice?, tableAfter, tableOf, tableWords, tallyOf}
-use Rattle.netlist.specs.Check.{below?, checkFile, checkFrom, due?, dueAfter, finish, formed?, gatesIn, header?, known?, limited?, more?, outputsIn, read, readBy, readNetlist}
-use Rattle.netlist.specs.Meaning.{andCount}
-use Rattle.netlist.specs.Netlist.{Netlist}
-use Rattle.netlist.specs.Records.{fieldsRecord, fileRecords, operationOf, recordOf, recordsOf, unended}
-use Rattle.netlist.specs.declared.records.Operation.the-variants.{And, Or, Xor}
-use Rattle.netlist.specs.declared.records.Operation.{Operation}
+use Rattle.netlist_model.specs.Check.{below?, checkFile, checkFrom, due?, dueAfter, finish, formed?, gatesIn, header?, known?, limited?, more?, outputsIn, read, readBy, readNetlist}
+use Rattle.netlist_model.specs.Meaning.{andCount}
+use Rattle.netlist_model.specs.Netlist.{Netlist}
+use Rattle.netlist_model.specs.Records.{fieldsRecord, fileRecords, operationOf, recordOf, recordsOf, unended}
+use Rattle.netlist_model.specs.declared.Operation.the-variants.{And, Or, Xor}
+use Rattle.netlist_model.specs.declared.Operation.{Operation}
 use Rattle.table.specs.Refusals.{firstRefusal}
 use Rattle.table.specs.Table.{graphOf, outputValue, outputWords, outputs, pairs, rowsOf, sideOutputs, valuesOn}
 use Rattle.table.specs.Values.{vertexValues}

@@ -7,11 +7,11 @@ use Rattle.load_model.proofs.GrownLaws.{step-below, step-none, step-the
 use Rattle.load_model.specs.Build.{Build, Built, Traced, askAnd, askGate, askGates, askXor, literalFor, withGate}
 use Rattle.load_model.specs.code.Good.{Good}
 use Rattle.load_model.specs.code.Grown.{Ready, Step}
-use Rattle.netlist.specs.Check.{andsOf}
-use Rattle.netlist.specs.Meaning.{andCount}
-use Rattle.netlist.specs.Netlist.{Gate}
-use Rattle.netlist.specs.declared.records.Operation.the-variants.{And, Or, Xor}
-use Rattle.netlist.specs.declared.records.Operation.{Operation}
+use Rattle.netlist_model.specs.Check.{andsOf}
+use Rattle.netlist_model.specs.Meaning.{andCount}
+use Rattle.netlist_model.specs.Netlist.{Gate}
+use Rattle.netlist_model.specs.declared.Operation.the-variants.{And, Or, Xor}
+use Rattle.netlist_model.specs.declared.Operation.{Operation}
 use lib.ListN.{getD}
 use mathlib.Core.List.{List, [], _++_, _∷_}
 

@@ -3,12 +3,12 @@ use Prim.Native.Nat.{_*_, _+_, _≤_, ℕ}
 use Rattle.load_model.specs.Load.{LoadRoom, accepted, countsDiffer?, lengthTests, loadResult, maxTable, maxVertices, pairTests, readResult, refused, shortSlice?, tableAfter, tableOf, tallyOf}
 use Rattle.load_model.specs.Loadable.{Enough, Loadable, Loads}
 use Rattle.load_model.specs.declared.Tally.{Tally}
-use Rattle.netlist.proofs.ReadLaws.{read-back, read-only}
-use Rattle.netlist.specs.code.Accepted.{countsIn}
-use Rattle.netlist.specs.Check.{Read, read, readNetlist, unread}
-use Rattle.netlist.specs.Limits.{maxBytes}
-use Rattle.netlist.specs.Meaning.{andCount}
-use Rattle.netlist.specs.Netlist.{Netlist, bytesOf}
+use Rattle.netlist_model.proofs.ReadLaws.{read-back, read-only}
+use Rattle.netlist_model.specs.code.Accepted.{countsIn}
+use Rattle.netlist_model.specs.Check.{Read, read, readNetlist, unread}
+use Rattle.netlist_model.specs.Limits.{maxBytes}
+use Rattle.netlist_model.specs.Meaning.{andCount}
+use Rattle.netlist_model.specs.Netlist.{Netlist, bytesOf}
 use Rattle.table.specs.Limits.{maxAnds}
 use Rattle.table.specs.Refusals.{Test, firstRefusal}
 use Rattle.truth.proofs.Booleans.{neither}

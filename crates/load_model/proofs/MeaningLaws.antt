@@ -15,10 +15,10 @@ use Rattle.load_model.specs.code.From as origins
 use Rattle.load_model.specs.code.Good.{Good}
 use Rattle.load_model.specs.code.Grown.{Ready, Step, rowWords}
 use Rattle.load_model.specs.code.Valued.{Follows, Origin, StandsFor, Valuation, Valued, byAnds, operandsOf}
-use Rattle.netlist.specs.Meaning.{andsFrom, fromAnds, gateAnds, gateResult, vertexResults}
-use Rattle.netlist.specs.Netlist.{Gate}
-use Rattle.netlist.specs.declared.records.Operation.the-variants.{And, Or, Xor}
-use Rattle.netlist.specs.declared.records.Operation.{Operation}
+use Rattle.netlist_model.specs.Meaning.{andsFrom, fromAnds, gateAnds, gateResult, vertexResults}
+use Rattle.netlist_model.specs.Netlist.{Gate}
+use Rattle.netlist_model.specs.declared.Operation.the-variants.{And, Or, Xor}
+use Rattle.netlist_model.specs.declared.Operation.{Operation}
 use lib.ListN.{getD, length, length-append}
 use mathlib.Core.Bool.{false}
 use mathlib.Core.List.{List, [], _++_, _∷_, map-append}

@@ -1,11 +1,11 @@
 -- The order of load's own tests, in the rules' numbers: each refusal is said where its sentence holds and none of those before it does.
 use Prim.Native.Nat.{_+_, _<_, _≤_, ℕ}
 use Rattle.load_model.specs.Load.{LoadRoom, countsDiffer?, loadResult, maxTable, readResult, refused, shortSlice?}
-use Rattle.netlist.specs.code.Accepted.{countsIn}
-use Rattle.netlist.specs.Check.{read, readNetlist}
-use Rattle.netlist.specs.Limits.{maxBytes}
-use Rattle.netlist.specs.Meaning.{andCount}
-use Rattle.netlist.specs.Netlist.{Netlist}
+use Rattle.netlist_model.specs.code.Accepted.{countsIn}
+use Rattle.netlist_model.specs.Check.{read, readNetlist}
+use Rattle.netlist_model.specs.Limits.{maxBytes}
+use Rattle.netlist_model.specs.Meaning.{andCount}
+use Rattle.netlist_model.specs.Netlist.{Netlist}
 use Rattle.table.specs.Limits.{maxAnds}
 use Rattle.table.specs.Refusals.{firstRefusal}
 use Rattle.truth.proofs.Booleans.{or-left, or-right}

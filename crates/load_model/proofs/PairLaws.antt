@@ -8,8 +8,8 @@ use Rattle.load_model.specs.Build.{Build, FileBuilt, Traced, askGates, b
 use Rattle.load_model.specs.code.Good.{Good}
 use Rattle.load_model.specs.code.Grown.{Ready, Step}
 use Rattle.load_model.specs.Load.{tallyOf}
-use Rattle.netlist.specs.Meaning.{andCount}
-use Rattle.netlist.specs.Netlist.{Netlist}
+use Rattle.netlist_model.specs.Meaning.{andCount}
+use Rattle.netlist_model.specs.Netlist.{Netlist}
 use lib.ListN.{getD, length, length-map}
 use mathlib.Core.List.{List, [], _∷_, map}
 use mathlib.Core.Path.{_≡_, refl, subst, sym}

@@ -6,9 +6,9 @@ use Rattle.load_model.proofs.PairLaws.{empty-good, fileStart, left-step
 use Rattle.load_model.specs.Build.{Build, Traced, askGates, buildFile, buildPair, literalFor, literalsFrom}
 use Rattle.load_model.specs.code.Good.{Good}
 use Rattle.load_model.specs.code.Valued.{Begins, Follows, Origin, PairMeans, StandsFor, Valuation, Valued}
-use Rattle.netlist.specs.Meaning.{andsFrom, vertexResults}
-use Rattle.netlist.specs.Netlist.{Netlist}
-use Rattle.netlist.specs.declared.records.Operation.{Operation}
+use Rattle.netlist_model.specs.Meaning.{andsFrom, vertexResults}
+use Rattle.netlist_model.specs.Netlist.{Netlist}
+use Rattle.netlist_model.specs.declared.Operation.{Operation}
 use lib.ListN.{List·getD-eq-default, getD, length}
 use mathlib.Core.List.{List, [], _∷_, map}
 use mathlib.Core.Path.{_∙_, _≡_, ap, refl, subst, sym}

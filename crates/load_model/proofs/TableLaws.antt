@@ -10,7 +10,7 @@ use Rattle.load_model.specs.code.Good.{Good, Row}
 use Rattle.load_model.specs.code.Grown.{Grown, rowWords, rowsAfter}
 use Rattle.load_model.specs.Load.{loadedGraph, maxTable, tableOf, tableWords}
 use Rattle.load_model.specs.Loadable.{Loadable}
-use Rattle.netlist.specs.Netlist.{Netlist}
+use Rattle.netlist_model.specs.Netlist.{Netlist}
 use Rattle.table.proofs.LayoutLaws.{length-pairs, pairs-at}
 use Rattle.table.specs.Accepted.{Accepted, Downward}
 use Rattle.table.specs.Limits.{maxAnds, maxInputs, maxOutputs}

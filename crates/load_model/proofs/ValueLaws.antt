@@ -11,10 +11,10 @@ use Rattle.load_model.specs.code.Good.{Good}
 use Rattle.load_model.specs.code.Grown.{rowsAfter}
 use Rattle.load_model.specs.Load.{loadedGraph}
 use Rattle.load_model.specs.code.Valued.{Begins, PairMeans, StandsFor, Valuation, Valued}
-use Rattle.netlist.proofs.ValueLaws.{function-from-ands, value-from-ands}
-use Rattle.netlist.specs.Meaning.{fileValue, operationFunction}
-use Rattle.netlist.specs.Netlist.{Netlist}
-use Rattle.netlist.specs.declared.records.Operation.{Operation}
+use Rattle.netlist_model.proofs.ValueLaws.{function-from-ands, value-from-ands}
+use Rattle.netlist_model.specs.Meaning.{fileValue, operationFunction}
+use Rattle.netlist_model.specs.Netlist.{Netlist}
+use Rattle.netlist_model.specs.declared.Operation.{Operation}
 use Rattle.table.proofs.FunctionLaws.{first-function-false, first-functions-perfect, length-first-functions}
 use Rattle.table.proofs.MeaningLaws.{row-value, value-kept, values-good}
 use Rattle.table.specs.Accepted.{RowBelow}

@@ -7,9 +7,9 @@ use Rattle.aig.specs.declared.fold.Folded.the-variants.{Pair, To}
 use Rattle.aig.specs.declared.fold.Folded.{Folded}
 use Rattle.aig.specs.declared.lookup.Found.the-variants.{At, Nothing}
 use Rattle.aig.specs.declared.lookup.Found.{Found}
-use Rattle.netlist.specs.Netlist.{Gate, Netlist}
-use Rattle.netlist.specs.declared.records.Operation.the-variants.{And, Or, Xor}
-use Rattle.netlist.specs.declared.records.Operation.{Operation}
+use Rattle.netlist_model.specs.Netlist.{Gate, Netlist}
+use Rattle.netlist_model.specs.declared.Operation.the-variants.{And, Or, Xor}
+use Rattle.netlist_model.specs.declared.Operation.{Operation}
 use lib.ListN.{getD}
 use mathlib.Core.List.{List, [], _++_, _∷_, map}
 

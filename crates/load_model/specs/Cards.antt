@@ -1,7 +1,7 @@
 -- The bench cards on loading, marked P, from the bytes of the files. "a is reference 2, b is 4": inputs 1 and 2, of two. (RULES 13.1, 13.2)
 use Prim.Native.Nat.{_*_, ℕ}
 use Rattle.load_model.specs.Load.{LoadRoom, accepted, loadResult, maxTable, maxVertices, tableAfter}
-use Rattle.netlist.specs.Check.{readNetlist}
+use Rattle.netlist_model.specs.Check.{readNetlist}
 use Rattle.table.specs.Table.{graphOf, outputValue}
 use Rattle.truth.specs.Truth.{Setting}
 use mathlib.Core.Bool.{false}

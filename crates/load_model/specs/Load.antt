@@ -4,10 +4,10 @@ use Rattle.load_model.specs.Build.{PairBuilt, buildPair}
 use Rattle.load_model.specs.declared.Loaded.the-variants.{Accepted, Refused}
 use Rattle.load_model.specs.declared.Loaded.{Loaded}
 use Rattle.load_model.specs.declared.Tally.{Tally}
-use Rattle.netlist.specs.code.Accepted.{countsIn}
-use Rattle.netlist.specs.Check.{Counts, Read, read, readNetlist, unread}
-use Rattle.netlist.specs.Limits.{maxBytes}
-use Rattle.netlist.specs.Netlist.{Netlist}
+use Rattle.netlist_model.specs.code.Accepted.{countsIn}
+use Rattle.netlist_model.specs.Check.{Counts, Read, read, readNetlist, unread}
+use Rattle.netlist_model.specs.Limits.{maxBytes}
+use Rattle.netlist_model.specs.Netlist.{Netlist}
 use Rattle.table.specs.Limits.{maxAnds, maxInputs, maxOutputs}
 use Rattle.table.specs.Refusals.{Test, firstRefusal}
 use Rattle.table.specs.Table.{Graph, graphOf}

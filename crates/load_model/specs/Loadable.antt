@@ -2,9 +2,9 @@
 use Prim.Native.Nat.{_+_, _≤_, ℕ}
 use Rattle.load_model.specs.Load.{LoadRoom, tallyOf}
 use Rattle.load_model.specs.declared.Tally.{Tally}
-use Rattle.netlist.specs.Check.{read, readNetlist}
-use Rattle.netlist.specs.Meaning.{andCount}
-use Rattle.netlist.specs.Netlist.{Netlist, Within}
+use Rattle.netlist_model.specs.Check.{read, readNetlist}
+use Rattle.netlist_model.specs.Meaning.{andCount}
+use Rattle.netlist_model.specs.Netlist.{Netlist, Within}
 use lib.ListN.{length}
 use mathlib.Core.List.{List}
 use mathlib.Core.Path.{_≡_}

@@ -1,50 +1,19 @@
 // A whole file checked in one pass.
-use crate::lines;
-use crate::records;
-use crate::records::Operation;
-use crate::records::Record;
+use netlist_model::Body;
+use netlist_model::Checked;
+use netlist_model::Due;
+use netlist_model::Operation;
+use netlist_model::Record;
+use netlist_model::Stepped;
+use netlist_model::Summary;
+use netlist_records::lines;
+use netlist_records::records;
 ghost use Prim.Native.Nat.{_+_, _<_};
-ghost use Rattle.netlist.specs.Check.{andsOf, answerOf, checkFile, finish};
-ghost use Rattle.netlist.specs.code.Passing.{Counted, Held, StartsAt, lineRecord, stepOf};
+ghost use Rattle.netlist_model.specs.Check.{andsOf, answerOf, checkFile, finish};
+ghost use Rattle.netlist_model.specs.code.Passing.{Counted, Held, StartsAt, lineRecord, stepOf};
 ghost use Rattle.text.specs.Split.{upTo};
 ghost use lib.ListN.{drop, length};
 ghost use mathlib.Core.Path.{_≡_};
-
-// The counts of line 1, the numbers of gates and outputs read so far, and the ANDs that these gates stand for.
-pub struct Body {
-    pub inputs: u32,
-    pub gates: u32,
-    pub outputs: u32,
-    pub gate: u32,
-    pub output: u32,
-    pub ands: u32,
-}
-
-// What is due: line 1, or a line after it.
-pub enum Due {
-    First,
-    Later(Body),
-}
-
-// What one line comes to: what is due next, or the number of a refusal.
-pub enum Stepped {
-    Next(Due),
-    Refuse(u32),
-}
-
-// What an accepted file has; `start` is where its gate lines start.
-pub struct Summary {
-    pub inputs: u32,
-    pub gates: u32,
-    pub outputs: u32,
-    pub ands: u32,
-    pub start: usize,
-}
-
-pub enum Checked {
-    Accepted(Summary),
-    Refused { number: u32, line: u32 },
-}
 
 // Whether a file keeps the layout, the limits and the bounds of its references: tests 2 to 6, line by line.
 pub fn check_file(file: &[u8]) -> Checked
@@ -111,13 +80,13 @@ fn first_step(found: Record) -> Stepped
 fn header_step(edition: u32, inputs: u32, gates: u32, outputs: u32) -> Stepped
     ensures { λ r. ⌜ r ≡ stepOf Due.First (Record.Header edition inputs gates outputs) ⌝ }
 {
-    if edition != crate::EDITION {
+    if edition != netlist_model::EDITION {
         return Stepped::Refuse(3);
     }
     if table::MAX_INPUTS < inputs {
         return Stepped::Refuse(4);
     }
-    if crate::MAX_GATES < gates {
+    if netlist_model::MAX_GATES < gates {
         return Stepped::Refuse(4);
     }
     if outputs < 1 {

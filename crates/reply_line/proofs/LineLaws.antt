@@ -1,7 +1,7 @@
 -- The line of an Undecided by its cause.
 use Prim.Native.Nat.{ℕ}
 use Rattle.compare_model.specs.Said.{undecidedBy}
-use Rattle.netlist.specs.Limits.{edition}
+use Rattle.netlist_model.specs.Limits.{edition}
 use Rattle.reply_line.specs.code.Cause.{causeVertex, causeWord}
 use Rattle.reply_line.specs.Line.{lineFor, roomFor}
 use Rattle.report.specs.Report.{LINE-ROOM, replyLine}

@@ -1,7 +1,7 @@
 -- The line that the program prints of a reply.
 use Prim.Native.Nat.{_+_, ℕ}
 use Rattle.compare_model.specs.Said.{Said}
-use Rattle.netlist.specs.Limits.{edition}
+use Rattle.netlist_model.specs.Limits.{edition}
 use Rattle.report.specs.Report.{LINE-ROOM, refusedLine, replyLine}
 use Rattle.report.specs.declared.fields.Vertex.the-variants.{At, None}
 use Rattle.report.specs.declared.fields.Word.the-variants as word

@@ -16,7 +16,7 @@ pub fn write_line(out: &mut [u8], output: u32, reply: Reply, setting: &[u8]) -> 
     match reply {
         Reply::Equal(counts) => report::write_reply(
             out,
-            netlist::EDITION,
+            netlist_model::EDITION,
             output,
             Word::Equal,
             b"",
@@ -26,7 +26,7 @@ pub fn write_line(out: &mut [u8], output: u32, reply: Reply, setting: &[u8]) -> 
         ),
         Reply::Different(counts) => report::write_reply(
             out,
-            netlist::EDITION,
+            netlist_model::EDITION,
             output,
             Word::Different,
             setting,
@@ -36,7 +36,7 @@ pub fn write_line(out: &mut [u8], output: u32, reply: Reply, setting: &[u8]) -> 
         ),
         Reply::Undecided(cause, counts) => report::write_reply(
             out,
-            netlist::EDITION,
+            netlist_model::EDITION,
             output,
             word_of(cause),
             b"",

@@ -5,9 +5,9 @@ use Rattle.compare_model.specs.Compare.{answerTo, answered, beyond?, compared, 
 use Rattle.load_model.specs.Build.{askAnd, askGate, askGates, askXor, buildFile, buildPair, emptyBuild, foldedOrNot, foundOrMade, literalsFrom}
 use Rattle.load_model.specs.Load.{countsDiffer?, loadResult, readResult, tableAfter, tableOf, tableWords, tallyOf}
 use Rattle.load_model.specs.Load.{shortSlice? as shortLoad?}
-use Rattle.netlist.specs.Check.{below?, checkFile, checkFrom, due?, dueAfter, finish, formed?, gatesIn, header?, known?, limited?, more?, outputsIn, readBy, readNetlist}
-use Rattle.netlist.specs.Meaning.{andCount}
-use Rattle.netlist.specs.Records.{fieldsRecord, fileRecords, operationOf, recordOf, recordsOf, unended}
+use Rattle.netlist_model.specs.Check.{below?, checkFile, checkFrom, due?, dueAfter, finish, formed?, gatesIn, header?, known?, limited?, more?, outputsIn, readBy, readNetlist}
+use Rattle.netlist_model.specs.Meaning.{andCount}
+use Rattle.netlist_model.specs.Records.{fieldsRecord, fileRecords, operationOf, recordOf, recordsOf, unended}
 use Rattle.product_model.specs.Run.{_andThen_, addPart, addRow, countStep, plain, run}
 use Rattle.report.specs.Report.{headLine, refusedLine, replyLine}
 use Rattle.report_model.specs.Cards.{Cards}

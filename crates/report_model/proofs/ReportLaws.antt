@@ -4,7 +4,7 @@ use Rattle.load_model.proofs.LoadLaws.{load-only, load-table}
 use Rattle.load_model.proofs.TableLaws.{table-accepted}
 use Rattle.load_model.specs.Load.{Answer, LoadRoom, accepted, loadResult, maxVertices, tableAfter}
 use Rattle.load_model.specs.declared.Tally.{Tally}
-use Rattle.netlist.specs.Check.{readNetlist}
+use Rattle.netlist_model.specs.Check.{readNetlist}
 use Rattle.report_model.specs.Report.{Lent, firstOf, loadRoom, reportOf, reportRoom, reported, rowLimit, short?, shortRoom?, untouched, works?}
 use Rattle.table.specs.Accepted.{Accepted}
 use Rattle.table.specs.Limits.{maxInputs}

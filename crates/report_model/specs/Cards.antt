@@ -2,7 +2,7 @@
 use Prim.Native.Nat.{_*_, ℕ}
 use Rattle.load_model.specs.Cards.{andFile, withOneGate}
 use Rattle.load_model.specs.Load.{maxTable, maxVertices}
-use Rattle.netlist.specs.Limits.{edition}
+use Rattle.netlist_model.specs.Limits.{edition}
 use Rattle.report.specs.Report.{headLine, refusedLine, replyLine}
 use Rattle.report.specs.declared.fields.Vertex.the-variants.{None}
 use Rattle.report.specs.declared.fields.Word.the-variants.{Different, Equal}

@@ -2,7 +2,7 @@
 use Prim.Native.Nat.{_*_, _+_, suc, zero, ℕ}
 use Rattle.compare_model.specs.Compare.{CompareRoom, Given, compared, overFront}
 use Rattle.load_model.specs.Load.{Answer, LoadRoom, accepted, loadResult, maxVertices, refused, tableAfter}
-use Rattle.netlist.specs.Check.{readNetlist}
+use Rattle.netlist_model.specs.Check.{readNetlist}
 use Rattle.reply_line.specs.Line.{lineFor}
 use Rattle.report.specs.Report.{LINE-ROOM, headLine, refusedLine}
 use Rattle.sweep_model.specs.State.{Limits}

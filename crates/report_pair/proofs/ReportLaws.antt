@@ -5,7 +5,7 @@ use Rattle.comparer.specs.Lent.{Slices, Unchanged}
 use Rattle.load.specs.Lent.{Kept, Working}
 use Rattle.load_model.specs.Load.{Answer, LoadRoom, accepted, loadResult, refused, tableAfter}
 use Rattle.load_model.specs.declared.Tally.{Tally}
-use Rattle.netlist.specs.Check.{readNetlist}
+use Rattle.netlist_model.specs.Check.{readNetlist}
 use Rattle.report.proofs.StoredLaws.{stored-next}
 use Rattle.report.specs.Report.{LINE-ROOM, Printed, StoredWithin, headLine, lineLength, linePut, refusedLine}
 use Rattle.report_model.proofs.ReportLaws.{loaded-accepted, report-loaded}

@@ -1,7 +1,7 @@
 // The checker on good and on damaged drawing files. A line for each: what the file is, and what came.
 use libc::STDOUT_FILENO;
+use netlist::Checked;
 use netlist::check;
-use netlist::check::Checked;
 ghost use Prim.Native.Nat.{_<_, _≤_};
 ghost use lib.ListN.{length};
 

@@ -6,7 +6,7 @@ ghost use Rattle.io.specs.Counts.{Counts};
 ghost use lib.ListN.{length};
 
 // A byte more than a file may have, so that a longer one is seen to be too long.
-const FILE_ROOM: usize = netlist::MAX_BYTES + 1;
+const FILE_ROOM: usize = netlist_model::MAX_BYTES + 1;
 
 const WORKING_ROOM: usize = 2 * load_graph::MAX_VERTICES;
 

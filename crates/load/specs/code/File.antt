@@ -4,12 +4,12 @@ use Rattle.aig.specs.Literal.{vertexOf}
 use Rattle.load_graph.specs.code.Slices.{tracedOf}
 use Rattle.load_graph.specs.declared.Counts.{Counts}
 use Rattle.load_model.specs.Build.{Traced, askGates}
-use Rattle.netlist.specs.Check.{andsOf, gatesIn, netlistIn, outputsIn}
-use Rattle.netlist.specs.Meaning.{andCount}
-use Rattle.netlist.specs.Netlist.{AllBelow, Downward, Gate, Netlist, gateRecord}
-use Rattle.netlist.specs.Records.{fileRecords, recordOf}
-use Rattle.netlist.specs.declared.check.Summary.{Summary}
-use Rattle.netlist.specs.declared.records.Record.the-variants.{Output}
+use Rattle.netlist_model.specs.Check.{andsOf, gatesIn, netlistIn, outputsIn}
+use Rattle.netlist_model.specs.Meaning.{andCount}
+use Rattle.netlist_model.specs.Netlist.{AllBelow, Downward, Gate, Netlist, gateRecord}
+use Rattle.netlist_model.specs.Records.{fileRecords, recordOf}
+use Rattle.netlist_model.specs.declared.Summary.{Summary}
+use Rattle.netlist_model.specs.declared.Record.the-variants.{Output}
 use Rattle.table.specs.Limits.{maxAnds}
 use Rattle.text.specs.Split.{upTo}
 use denote.Ref.{RefT, now}

@@ -5,9 +5,9 @@ use Rattle.aig.specs.Values.{Algebra, AllGood, literalValue}
 use Rattle.load_model.specs.Build.{Build, Traced, buildPair, emptyBuild}
 use Rattle.load_model.specs.code.From.{From}
 use Rattle.load_model.specs.code.Grown.{Grown}
-use Rattle.netlist.specs.Meaning.{andResult, andsFrom, fromAnds, gateAnds, vertexResults}
-use Rattle.netlist.specs.Netlist.{Netlist}
-use Rattle.netlist.specs.declared.records.Operation.{Operation}
+use Rattle.netlist_model.specs.Meaning.{andResult, andsFrom, fromAnds, gateAnds, vertexResults}
+use Rattle.netlist_model.specs.Netlist.{Netlist}
+use Rattle.netlist_model.specs.declared.Operation.{Operation}
 use Rattle.table.specs.Values.{Pair}
 use lib.ListN.{getD, length}
 use mathlib.Core.List.{List, _++_, map}

@@ -1,7 +1,7 @@
 -- The invariant: the check of the lines ahead, by what is due and its number, gives the answer for the file.
 -- The measure is what is left of the file: each line that is passed has an end byte.
 use Prim.Native.Nat.{_+_, _-_, ℕ}
-use Rattle.netlist.proofs.PassingLaws.{Ahead, ahead-begins, ahead-ended, ahead-ends, ahead-next, ahead-refuses, line-few, stepped}
+use Rattle.netlist_model.proofs.PassingLaws.{Ahead, ahead-begins, ahead-ended, ahead-ends, ahead-next, ahead-refuses, line-few, stepped}
 use Rattle.netlist.proofs.check.check_file.Statement.{statement}
 use Rattle.netlist.proofs.check.check_file.Tie as tie
 use Rattle.text.specs.Split.{upTo}

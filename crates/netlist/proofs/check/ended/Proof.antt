@@ -1,9 +1,9 @@
 -- Each return is one case of the end of a file; no loop.
 -- All counts are reached at the last return.
-use Rattle.netlist.proofs.StepLaws.{finish-all, finish-missing}
+use Rattle.netlist_model.proofs.StepLaws.{finish-all, finish-missing}
 use Rattle.netlist.proofs.check.ended.Statement.{statement}
 use Rattle.netlist.proofs.check.ended.Tie as tie
-use Rattle.netlist.specs.Check.{finish, more?}
+use Rattle.netlist_model.specs.Check.{finish, more?}
 use Rattle.table.specs.Refusals.{firstRefusal}
 use borrow.Author.Needs.{needs}
 use mathlib.Core.Path.{refl, sym}

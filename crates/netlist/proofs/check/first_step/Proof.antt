@@ -1,9 +1,9 @@
 -- Each arm is one kind of record; no loop.
 -- The header's counts are tested by the call.
-use Rattle.netlist.proofs.StepLaws.{gate-first, malformed-refused, output-first}
+use Rattle.netlist_model.proofs.StepLaws.{gate-first, malformed-refused, output-first}
 use Rattle.netlist.proofs.check.first_step.Statement.{statement}
 use Rattle.netlist.proofs.check.first_step.Tie as tie
-use Rattle.netlist.specs.declared.check.Due.the-variants.{First}
+use Rattle.netlist_model.specs.declared.Due.the-variants.{First}
 use borrow.Author.Needs.{needs}
 use mathlib.Core.Path.{sym}
 

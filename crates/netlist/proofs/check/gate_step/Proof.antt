@@ -1,6 +1,6 @@
 -- Each return is one case of the step, by the tests that led there; no loop.
 -- The counts stay within their limits, so that no sum passes its type.
-use Rattle.netlist.proofs.StepLaws.{ands-few, gate-beyond, gate-extra, gate-next}
+use Rattle.netlist_model.proofs.StepLaws.{ands-few, gate-beyond, gate-extra, gate-next}
 use Rattle.netlist.proofs.check.gate_step.Statement.{statement}
 use Rattle.netlist.proofs.check.gate_step.Tie as tie
 use borrow.Author.Needs.{needs}

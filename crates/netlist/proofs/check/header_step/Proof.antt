@@ -1,6 +1,6 @@
 -- Each return is one case of the step, by the tests that led there; no loop.
 -- What is left at the last return is within every limit.
-use Rattle.netlist.proofs.StepLaws.{header-beyond, header-edition, header-next}
+use Rattle.netlist_model.proofs.StepLaws.{header-beyond, header-edition, header-next}
 use Rattle.netlist.proofs.check.header_step.Statement.{statement}
 use Rattle.netlist.proofs.check.header_step.Tie as tie
 use borrow.Author.Needs.{needs}

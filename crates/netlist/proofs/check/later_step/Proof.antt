@@ -1,6 +1,6 @@
 -- Each arm is one kind of record; no loop.
 -- The calls keep the counts within their limits.
-use Rattle.netlist.proofs.StepLaws.{header-again, malformed-refused}
+use Rattle.netlist_model.proofs.StepLaws.{header-again, malformed-refused}
 use Rattle.netlist.proofs.check.later_step.Statement.{statement}
 use Rattle.netlist.proofs.check.later_step.Tie as tie
 use borrow.Author.Needs.{needs}

@@ -1,6 +1,6 @@
 -- The line ends at an end byte or at the end of the file; no loop.
 -- Without an end byte it is malformed.
-use Rattle.netlist.proofs.LineLaws.{line-last, line-whole}
+use Rattle.netlist_model.proofs.LineLaws.{line-last, line-whole}
 use Rattle.netlist.proofs.check.next_record.Statement.{statement}
 use Rattle.netlist.proofs.check.next_record.Tie as tie
 use borrow.Author.Needs.{needs}

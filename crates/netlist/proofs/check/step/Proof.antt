@@ -1,6 +1,6 @@
 -- Each arm is one kind of what is due; no loop.
 -- What is due holds its counts within their limits.
-use Rattle.netlist.proofs.PassingLaws.{held-later}
+use Rattle.netlist_model.proofs.PassingLaws.{held-later}
 use Rattle.netlist.proofs.check.step.Statement.{statement}
 use Rattle.netlist.proofs.check.step.Tie as tie
 use borrow.Author.Needs.{needs}

@@ -1,0 +1,80 @@
+-- A netlist, and the bytes of its file.
+use Prim.Native.Nat.{_*_, _+_, _<_, _≤_, suc, ℕ}
+use Rattle.netlist_model.specs.Limits.{edition}
+use Rattle.netlist_model.specs.Records.{operationBytes}
+use Rattle.netlist_model.specs.declared.Operation.{Operation}
+use Rattle.netlist_model.specs.declared.Record.the-variants as kinds
+use Rattle.netlist_model.specs.declared.Record.the-variants.{Header, Malformed, Output}
+use Rattle.netlist_model.specs.declared.Record.{Record}
+use Rattle.text.specs.Decimal.{decimal}
+use Rattle.text.specs.Split.{join}
+use lib.ListN.{length}
+use mathlib.Core.List.{List, [], _++_, _∷_, map}
+
+-- "Then one line a gate: `G⇥op⇥p⇥q`" (RULES 1.4)
+pub record Gate : Type 0 where
+  pub op : Operation
+  pub p : ℕ
+  pub q : ℕ
+
+-- "Vertex 0 is constant false, vertices 1 to inputs are the inputs, gates follow in file order." (RULES 1.6)
+pub record Netlist : Type 0 where
+  pub inputs : ℕ
+  pub gates : List Gate
+  pub outputs : List ℕ
+
+-- "A gate refers only to vertices below itself.": the gates from vertex v on. (RULES 1.8)
+pub data Downward : ℕ → List Gate → Type 0 where
+  none : {v : ℕ} → Downward v []
+  gate : {v : ℕ} {g : Gate} {gs : List Gate} → g .p < 2 * v → g .q < 2 * v → Downward (suc v) gs → Downward v (g ∷ gs)
+
+-- All references below a bound.
+pub data AllBelow : ℕ → List ℕ → Type 0 where
+  none : {n : ℕ} → AllBelow n []
+  next : {n r : ℕ} {rs : List ℕ} → r < n → AllBelow n rs → AllBelow n (r ∷ rs)
+
+-- "Limits: .. 0 to 64 inputs; 0 to 4,096 gates a file; 1 to 64 outputs", and references below their bounds. Demand 1 stands on it, so the
+-- rules' numbers are written out: a wrong limit in the tests accepts or refuses another file. (RULES 1.8, 2.1, 12.1)
+pub record Within (d : Netlist) : Type 0 where
+  pub inputs : d .inputs ≤ 64
+  pub gates : length (d .gates) ≤ 4096
+  pub some : 1 ≤ length (d .outputs)
+  pub outputs : length (d .outputs) ≤ 64
+  pub downward : Downward (1 + d .inputs) (d .gates)
+  pub below : AllBelow (2 * (1 + d .inputs + length (d .gates))) (d .outputs)
+
+-- The record of a gate.
+abbrev pub gateRecord : Gate → Record
+gateRecord g = kinds.Gate (g .op) (g .p) (g .q)
+
+-- "Then one line a gate .. Then one line an output .., outputs numbered from 0." (RULES 1.4, 1.5)
+unfoldable pub bodyRecords : Netlist → List Record
+bodyRecords d = map gateRecord (d .gates) ++ map Output (d .outputs)
+
+-- "Line 1: `N⇥edition⇥inputs⇥gates⇥outputs`." (RULES 1.3)
+abbrev pub headerRecord : Netlist → Record
+headerRecord d = Header edition (d .inputs) (length (d .gates)) (length (d .outputs))
+
+-- The records of a netlist's file.
+unfoldable pub netlistRecords : Netlist → List Record
+netlistRecords d = headerRecord d ∷ bodyRecords d
+
+-- "`N⇥edition⇥inputs⇥gates⇥outputs`", "`G⇥op⇥p⇥q`", "`O⇥r`": the fields of a record. A malformed one has none. (RULES 1.3, 1.4, 1.5)
+unfoldable pub fieldsOf : Record → List (List ℕ)
+fieldsOf (Header e i g o) = (78 ∷ []) ∷ decimal e ∷ decimal i ∷ decimal g ∷ decimal o ∷ []
+fieldsOf (kinds.Gate op p q) = (71 ∷ []) ∷ operationBytes op ∷ decimal p ∷ decimal q ∷ []
+fieldsOf (Output r) = (79 ∷ []) ∷ decimal r ∷ []
+fieldsOf Malformed = []
+
+-- "fields parted by one tab (byte 9), each line ended by byte 10" (RULES 1.1)
+unfoldable pub lineBytes : Record → List ℕ
+lineBytes r = join 9 (fieldsOf r) ++ 10 ∷ []
+
+-- "Lines of text, one record a line" (RULES 1.1)
+unfoldable pub linesBytes : List Record → List ℕ
+linesBytes [] = []
+linesBytes (r ∷ rs) = lineBytes r ++ linesBytes rs
+
+-- The file of a netlist.
+unfoldable pub bytesOf : Netlist → List ℕ
+bytesOf d = linesBytes (netlistRecords d)

@@ -1,0 +1,90 @@
+-- Lines and their records.
+use Prim.Native.Nat.{ℕ}
+use Rattle.netlist_model.specs.declared.Operation.the-variants.{And, Or, Xor}
+use Rattle.netlist_model.specs.declared.Operation.{Operation}
+use Rattle.netlist_model.specs.declared.OperationField.the-variants.{Named, Unknown}
+use Rattle.netlist_model.specs.declared.OperationField.{OperationField}
+use Rattle.netlist_model.specs.declared.Record.the-variants.{Gate, Header, Malformed, Output}
+use Rattle.netlist_model.specs.declared.Record.{Record}
+use Rattle.text.specs.Bytes.{sameBytes}
+use Rattle.text.specs.Numerals.{numeralOf}
+use Rattle.text.specs.Split.{splitAt}
+use Rattle.text.specs.declared.numerals.Numeral.the-variants.{Malformed as Unread, Value}
+use Rattle.text.specs.declared.numerals.Numeral.{Numeral}
+use lib.Dec.{eqb}
+use lib.ListN.{getD, length}
+use mathlib.Core.Bool.{Bool, _&&_, cond}
+use mathlib.Core.List.{List, [], _∷_}
+
+-- "where op is exactly the bytes `and`, `or` or `xor`" (RULES 1.4)
+abbrev pub operationBytes : Operation → List ℕ
+operationBytes And = 97 ∷ 110 ∷ 100 ∷ []
+operationBytes Or = 111 ∷ 114 ∷ []
+operationBytes Xor = 120 ∷ 111 ∷ 114 ∷ []
+
+-- The operation that a field names.
+unfoldable pub operationOf : List ℕ → OperationField
+operationOf s =
+    cond (sameBytes s (operationBytes And)) (Named And)
+    (cond (sameBytes s (operationBytes Or)) (Named Or)
+    (cond (sameBytes s (operationBytes Xor)) (Named Xor) Unknown))
+
+-- "Line 1: `N⇥edition⇥inputs⇥gates⇥outputs`." (RULES 1.3)
+abbrev pub headerOf : Numeral → Numeral → Numeral → Numeral → Record
+headerOf (Value e) (Value i) (Value g) (Value o) = Header e i g o
+headerOf (Value e) (Value i) (Value g) Unread = Malformed
+headerOf (Value e) (Value i) Unread o = Malformed
+headerOf (Value e) Unread g o = Malformed
+headerOf Unread i g o = Malformed
+
+-- "Then one line a gate: `G⇥op⇥p⇥q`" (RULES 1.4)
+abbrev pub gateOf : OperationField → Numeral → Numeral → Record
+gateOf (Named op) (Value p) (Value q) = Gate op p q
+gateOf (Named op) (Value p) Unread = Malformed
+gateOf (Named op) Unread q = Malformed
+gateOf Unknown p q = Malformed
+
+-- "Then one line an output: `O⇥r`" (RULES 1.5)
+abbrev pub outputOf : Numeral → Record
+outputOf (Value r) = Output r
+outputOf Unread = Malformed
+
+-- Whether there are n fields and the first is a letter.
+abbrev pub laidOut : ℕ → List ℕ → List (List ℕ) → Bool
+laidOut n letter fs = eqb (length fs) n && sameBytes (getD fs 0 []) letter
+
+-- The record that the fields after the letter give, for each letter.
+abbrev pub headerIn : List (List ℕ) → Record
+headerIn fs = headerOf (numeralOf (getD fs 1 [])) (numeralOf (getD fs 2 [])) (numeralOf (getD fs 3 [])) (numeralOf (getD fs 4 []))
+
+abbrev pub gateIn : List (List ℕ) → Record
+gateIn fs = gateOf (operationOf (getD fs 1 [])) (numeralOf (getD fs 2 [])) (numeralOf (getD fs 3 []))
+
+abbrev pub outputIn : List (List ℕ) → Record
+outputIn fs = outputOf (numeralOf (getD fs 1 []))
+
+-- "an N, G or O record of this layout": the record of a line's fields. (RULES 8.1)
+unfoldable pub fieldsRecord : List (List ℕ) → Record
+fieldsRecord fs =
+    cond (laidOut 5 (78 ∷ []) fs) (headerIn fs)
+    (cond (laidOut 4 (71 ∷ []) fs) (gateIn fs)
+    (cond (laidOut 2 (79 ∷ []) fs) (outputIn fs) Malformed))
+
+-- "fields parted by one tab (byte 9)": the record of a line without its end byte. (RULES 1.1)
+unfoldable pub recordOf : List ℕ → Record
+recordOf line = fieldsRecord (splitAt 9 line)
+
+-- "or has no end byte": what stands after the last byte 10 is such a line, if it is not empty. (RULES 8.1)
+unfoldable pub unended : List ℕ → List Record
+unended [] = []
+unended (b ∷ bs) = Malformed ∷ []
+
+-- "each line ended by byte 10": the records of the parts that the end bytes cut a file into. (RULES 1.1)
+unfoldable pub recordsOf : List (List ℕ) → List Record
+recordsOf [] = []
+recordsOf (line ∷ []) = unended line
+recordsOf (line ∷ (next ∷ lines)) = recordOf line ∷ recordsOf (next ∷ lines)
+
+-- The records of a file's lines.
+unfoldable pub fileRecords : List ℕ → List Record
+fileRecords bytes = recordsOf (splitAt 10 bytes)

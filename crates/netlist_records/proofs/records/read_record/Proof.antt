@@ -1,0 +1,86 @@
+-- Each return is one kind of record, by the tests that led there; no loop.
+-- A test that holds gives the number of fields.
+use Rattle.netlist_model.proofs.RecordLaws.{laid-out-count}
+use Rattle.netlist_records.proofs.records.read_record.Statement.{statement}
+use Rattle.netlist_records.proofs.records.read_record.Tie as tie
+use Rattle.netlist_model.specs.Records.{fieldsRecord, recordOf}
+use Rattle.text.specs.Split.{splitAt}
+use borrow.Author.Needs.{needs}
+use mathlib.Core.List.{[], _∷_}
+use mathlib.Core.Path.{_∙_, refl, sym}
+
+slice-aggregate-is-laid-out : tie.Need-slice-aggregate-is-laid-out
+slice-aggregate-is-laid-out c = search needs
+
+is-laid-out-requires : tie.Need-is-laid-out-requires
+is-laid-out-requires c κs = search needs
+
+read-header-requires : tie.Need-read-header-requires
+read-header-requires c κs = laid-out-count 5 (78 ∷ []) (splitAt 9 (c .before .before .before .before .args .line .now)) (sym (c .before .is-laid-out .ensures) ∙ c .if1 .taken)
+
+returns : tie.Need-returns
+unfolding recordOf fieldsRecord
+returns c = let at1 = c .before in rw (sym (at1 .before .is-laid-out .ensures) ∙ at1 .if1 .taken) (c .read-header .ensures)
+
+slice-aggregate-is-laid-out-2 : tie.Need-slice-aggregate-is-laid-out-2
+slice-aggregate-is-laid-out-2 c = search needs
+
+is-laid-out-requires-2 : tie.Need-is-laid-out-requires-2
+is-laid-out-requires-2 c κs = search needs
+
+read-gate-requires : tie.Need-read-gate-requires
+read-gate-requires c κs =
+    let at1 = c .before .before .before in
+    laid-out-count 4 (71 ∷ []) (splitAt 9 (at1 .before .before .before .before .args .line .now)) (sym (c .before .is-laid-out2 .ensures) ∙ c .if2 .taken)
+
+returns-2 : tie.Need-returns-2
+unfolding recordOf fieldsRecord
+returns-2 c =
+    let at2 = c .before in
+    let at1 = at2 .before .before .before in
+    rw (sym (at1 .before .is-laid-out .ensures) ∙ at1 .if1 .left, sym (at2 .before .is-laid-out2 .ensures) ∙ at2 .if2 .taken) (c .read-gate .ensures)
+
+slice-aggregate-is-laid-out-3 : tie.Need-slice-aggregate-is-laid-out-3
+slice-aggregate-is-laid-out-3 c = search needs
+
+is-laid-out-requires-3 : tie.Need-is-laid-out-requires-3
+is-laid-out-requires-3 c κs = search needs
+
+read-output-requires : tie.Need-read-output-requires
+read-output-requires c κs =
+    let at1 = c .before .before .before .before .before .before in
+    laid-out-count 2 (79 ∷ []) (splitAt 9 (at1 .before .before .before .before .args .line .now)) (sym (c .before .is-laid-out3 .ensures) ∙ c .if3 .taken)
+
+returns-3 : tie.Need-returns-3
+unfolding recordOf fieldsRecord
+returns-3 c =
+    let at3 = c .before in
+    let at2 = at3 .before .before .before in
+    let at1 = at2 .before .before .before in
+    rw (sym (at1 .before .is-laid-out .ensures) ∙ at1 .if1 .left, sym (at2 .before .is-laid-out2 .ensures) ∙ at2 .if2 .left, sym (at3 .before .is-laid-out3 .ensures) ∙ at3 .if3 .taken)
+    (c .read-output .ensures)
+
+returns-4 : tie.Need-returns-4
+unfolding recordOf fieldsRecord
+returns-4 c =
+    let at2 = c .before .before .before in
+    let at1 = at2 .before .before .before in
+    rw (sym (at1 .before .is-laid-out .ensures) ∙ at1 .if1 .left, sym (at2 .before .is-laid-out2 .ensures) ∙ at2 .if2 .left, sym (c .before .is-laid-out3 .ensures) ∙ c .if3 .left) refl
+
+pub read-record-spec : {M : Type 1} → statement M
+read-record-spec =
+    tie.close
+    (tie.spec
+    slice-aggregate-is-laid-out
+    is-laid-out-requires
+    read-header-requires
+    returns
+    slice-aggregate-is-laid-out-2
+    is-laid-out-requires-2
+    read-gate-requires
+    returns-2
+    slice-aggregate-is-laid-out-3
+    is-laid-out-requires-3
+    read-output-requires
+    returns-3
+    returns-4)

@@ -1,0 +1,122 @@
+// The records of lines.
+ghost use Rattle.netlist_model.specs.Records.{gateIn, gateOf, headerIn, headerOf, laidOut, operationOf, outputIn, recordOf};
+ghost use Rattle.text.specs.Split.{splitAt};
+ghost use lib.ListN.{length};
+ghost use mathlib.Core.Path.{_≡_};
+use netlist_model::Operation;
+use netlist_model::OperationField;
+use netlist_model::Record;
+use text::Numeral;
+
+const TAB: u8 = b'\t';
+
+// The record of a line without its end byte.
+pub fn read_record(line: &[u8]) -> Record
+    ensures { λ r. ⌜ r ≡ recordOf (now (line .entry)) ⌝ }
+{
+    if is_laid_out(line, 5, b"N") {
+        return read_header(line);
+    }
+    if is_laid_out(line, 4, b"G") {
+        return read_gate(line);
+    }
+    if is_laid_out(line, 2, b"O") {
+        return read_output(line);
+    }
+    Record::Malformed
+}
+
+// The operation that a field names.
+pub fn operation_of(field: &[u8]) -> OperationField
+    ensures { λ r. ⌜ r ≡ operationOf (now (field .entry)) ⌝ }
+{
+    if text::same(field, b"and") {
+        return OperationField::Named(Operation::And);
+    }
+    if text::same(field, b"or") {
+        return OperationField::Named(Operation::Or);
+    }
+    if text::same(field, b"xor") {
+        return OperationField::Named(Operation::Xor);
+    }
+    OperationField::Unknown
+}
+
+// Whether a line has `count` fields and the first is `letter`.
+fn is_laid_out(line: &[u8], count: usize, letter: &[u8]) -> bool
+    ensures { λ r. ⌜ r ≡ laidOut count (now (letter .entry)) (splitAt 9 (now (line .entry))) ⌝ }
+{
+    if text::part_count(line, TAB) != count {
+        return false;
+    }
+    text::same(text::part(line, 0, TAB), letter)
+}
+
+fn read_header(line: &[u8]) -> Record
+    requires { ⌜ length (splitAt 9 (now line)) ≡ 5 ⌝ }
+    ensures { λ r. ⌜ r ≡ headerIn (splitAt 9 (now (line .entry))) ⌝ }
+{
+    let edition = text::parse(text::part(line, 1, TAB));
+    let inputs = text::parse(text::part(line, 2, TAB));
+    let gates = text::parse(text::part(line, 3, TAB));
+    let outputs = text::parse(text::part(line, 4, TAB));
+    header_of(edition, inputs, gates, outputs)
+}
+
+fn read_gate(line: &[u8]) -> Record
+    requires { ⌜ length (splitAt 9 (now line)) ≡ 4 ⌝ }
+    ensures { λ r. ⌜ r ≡ gateIn (splitAt 9 (now (line .entry))) ⌝ }
+{
+    let op = operation_of(text::part(line, 1, TAB));
+    let p = text::parse(text::part(line, 2, TAB));
+    let q = text::parse(text::part(line, 3, TAB));
+    gate_of(op, p, q)
+}
+
+fn read_output(line: &[u8]) -> Record
+    requires { ⌜ length (splitAt 9 (now line)) ≡ 2 ⌝ }
+    ensures { λ r. ⌜ r ≡ outputIn (splitAt 9 (now (line .entry))) ⌝ }
+{
+    match text::parse(text::part(line, 1, TAB)) {
+        Numeral::Value(r) => Record::Output(r),
+        Numeral::Malformed => Record::Malformed,
+    }
+}
+
+fn header_of(edition: Numeral, inputs: Numeral, gates: Numeral, outputs: Numeral) -> Record
+    ensures { λ r. ⌜ r ≡ headerOf edition inputs gates outputs ⌝ }
+{
+    let Numeral::Value(edition) = edition else {
+        return Record::Malformed;
+    };
+    let Numeral::Value(inputs) = inputs else {
+        return Record::Malformed;
+    };
+    let Numeral::Value(gates) = gates else {
+        return Record::Malformed;
+    };
+    let Numeral::Value(outputs) = outputs else {
+        return Record::Malformed;
+    };
+    Record::Header {
+        edition,
+        inputs,
+        gates,
+        outputs,
+    }
+}
+
+fn gate_of(op: OperationField, p: Numeral, q: Numeral) -> Record
+    ensures { λ r. ⌜ r ≡ gateOf op p q ⌝ }
+{
+    let OperationField::Named(op) = op else {
+        return Record::Malformed;
+    };
+    let Numeral::Value(p) = p else {
+        return Record::Malformed;
+    };
+    let Numeral::Value(q) = q else {
+        return Record::Malformed;
+    };
+    Record::Gate { op, p, q }
+}
