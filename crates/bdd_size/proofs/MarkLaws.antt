@@ -4,9 +4,9 @@ use Rattle.bdd.proofs.AgreeLaws.{canonical-agree, canonical-fewer}
 use Rattle.bdd.proofs.RowsLaws.{child-constant, high-sees, length-put, level-sees, low-sees, mark-cases, mark-constant, mark-sees, put-row, put-same, put-word, words-equal}
 use Rattle.bdd.proofs.StoreLaws.{reach-earlier}
 use Rattle.bdd.specs.Diagram.{Canonical, Reach, along, arrived}
-use Rattle.bdd_size.specs.code.Marks.{Closed, Marks, More, WipeReady, Wipes, Word, gained, marked, marksOf, same, wiped}
 use Rattle.bdd.specs.code.Rows.{MARK, RADIX, child, highAt, levelAt, lowAt, markAt, wordAt}
 use Rattle.bdd.specs.code.Store.{Agree}
+use Rattle.bdd_size.specs.code.Marks.{Closed, Marks, More, WipeReady, Wipes, Word, gained, marked, marksOf, same, wiped}
 use lib.ListN.{length}
 use mathlib.Core.Bool.{Bool, false, true}
 use mathlib.Core.List.{List}

@@ -1,12 +1,12 @@
 -- The rows that are marked have, one to one, the distinct parts of the function as theirs.
 use Prim.Native.Nat.{_/_, _≤_, suc, zero, ℕ}
-use Rattle.bdd_size.proofs.MarkLaws.{all-marked, wiped-same}
 use Rattle.bdd.proofs.RowsLaws.{mark-cases}
 use Rattle.bdd.proofs.StoreLaws.{part-reach, parts-reference, reach-earlier, reach-part, rows-apart}
 use Rattle.bdd.specs.Diagram.{Canonical, denote, rowFunction}
-use Rattle.bdd_size.specs.code.Marks.{Marks, Sized, Wipes, marksOf}
 use Rattle.bdd.specs.code.Rows.{levelAt, markAt}
 use Rattle.bdd.specs.code.Store.{Store}
+use Rattle.bdd_size.proofs.MarkLaws.{all-marked, wiped-same}
+use Rattle.bdd_size.specs.code.Marks.{Marks, Sized, Wipes, marksOf}
 use Rattle.truth.proofs.Booleans.{clash, iff-equal, not-true, or-cases, or-left, or-right}
 use Rattle.truth.proofs.Distinct.{among-congruent, apart-distinct, distinct-same}
 use Rattle.truth.proofs.Parts.{alike-sameness}

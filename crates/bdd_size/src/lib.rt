@@ -7,9 +7,9 @@ use bdd::rows::put_word;
 use bdd::rows::word_of;
 ghost use Prim.Native.Nat.{_*_, _/_, _≤_};
 ghost use Rattle.bdd.specs.Diagram.{Canonical};
-ghost use Rattle.bdd_size.specs.code.Marks.{Marks, Sized, WipeReady, Wipes, marked, wiped};
 ghost use Rattle.bdd.specs.code.Rows.{markAt};
 ghost use Rattle.bdd.specs.code.Store.{Store};
+ghost use Rattle.bdd_size.specs.code.Marks.{Marks, Sized, WipeReady, Wipes, marked, wiped};
 ghost use lib.ListN.{length};
 ghost use mathlib.Core.Path.{_≡_};
 

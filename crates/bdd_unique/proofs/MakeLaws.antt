@@ -1,6 +1,5 @@
 -- What `make` gives, as laws on lists.
 use Prim.Native.Nat.{_%_, _*_, _+_, _-_, _/_, _<_, _≤_, suc, ℕ}
-use Rattle.bdd_unique.proofs.ChainLaws.{added-is, added-kept, added-owner, added-store}
 use Rattle.bdd.proofs.AgreeLaws.{kept-self, kept-then}
 use Rattle.bdd.proofs.DiagramLaws.{canonical, cofactor-hit, cofactor-miss, cofactor-reference, denote-inverse, denote-node, denote-perfect, denote-skip, denote-top, frame, node-high, node-low, one-row-alike, reference-more, row-of}
 use Rattle.bdd.proofs.ReferenceLaws.{double-row, edge-bit, edge-injective, edge-plain, edge-row, edge-twice, row-reference}
@@ -8,6 +7,7 @@ use Rattle.bdd.proofs.StoreLaws.{row-zero, store-new, stored-among, stored-deno
 use Rattle.bdd.specs.Diagram.{Canonical, Reference, Row, cofactor, denote, edge, rowFunction, storeOf}
 use Rattle.bdd.specs.code.Rows.{MARK, highAt, levelAt, lowAt}
 use Rattle.bdd.specs.code.Store.{Agree, Kept, Store}
+use Rattle.bdd_unique.proofs.ChainLaws.{added-is, added-kept, added-owner, added-store}
 use Rattle.bdd_unique.specs.code.Unique.{Found, Grown, Is, MadeAt, MadeFull, NewRow, addPart, added, join, plain}
 use Rattle.truth.proofs.Booleans.{not-true}
 use Rattle.truth.proofs.Equality.{invert-twice, same-equal, same-reflexive}

@@ -1,13 +1,13 @@
 -- Post-order: the children are marked before the row, so that marked rows lead to marked rows.
 -- The measure is the row: its children are earlier rows.
 use Prim.Native.Nat.{_+_, _/_, _<_, _≤_, ℕ}
-use Rattle.bdd_size.proofs.MarkLaws.{ToMark, count-bound, high-earlier, low-earlier, mark-again, mark-constant-row, mark-high, mark-low, mark-row, set-mark-asks}
 use Rattle.bdd.proofs.rows.high_of.Reads as high-of-reads
 use Rattle.bdd.proofs.rows.low_of.Reads as low-of-reads
 use Rattle.bdd.proofs.rows.mark_of.Reads as mark-of-reads
 use Rattle.bdd_size.proofs.+mark.Lts-mark as mark-lts
 use Rattle.bdd_size.proofs.+mark.Tie.{close}
 use Rattle.bdd_size.proofs.+mark.{statement}
+use Rattle.bdd_size.proofs.MarkLaws.{ToMark, count-bound, high-earlier, low-earlier, mark-again, mark-constant-row, mark-high, mark-low, mark-row, set-mark-asks}
 use Rattle.bdd_size.proofs.mark.Kinds as mark-kinds
 use Rattle.bdd_size.proofs.mark.Reads as mark
 use Rattle.bdd_size.proofs.set_mark.Reads as set-mark-reads

@@ -1,7 +1,6 @@
 -- Post-order: the children are wiped before the row, so that rows without a mark lead to rows without one.
 -- The measure is the row: its children are earlier rows.
 use Prim.Native.Nat.{_/_, _<_, ℕ}
-use Rattle.bdd_size.proofs.MarkLaws.{ToWipe, clear-mark-asks, wipe-high, wipe-high-earlier, wipe-low, wipe-low-earlier, wipe-none, wipe-pos, wipe-row}
 use Rattle.bdd.proofs.RowsLaws.{mark-one}
 use Rattle.bdd.proofs.rows.high_of.Reads as high-of-reads
 use Rattle.bdd.proofs.rows.low_of.Reads as low-of-reads
@@ -9,6 +8,7 @@ use Rattle.bdd.proofs.rows.mark_of.Reads as mark-of-reads
 use Rattle.bdd_size.proofs.+wipe.Lts-wipe as wipe-lts
 use Rattle.bdd_size.proofs.+wipe.Tie.{close}
 use Rattle.bdd_size.proofs.+wipe.{statement}
+use Rattle.bdd_size.proofs.MarkLaws.{ToWipe, clear-mark-asks, wipe-high, wipe-high-earlier, wipe-low, wipe-low-earlier, wipe-none, wipe-pos, wipe-row}
 use Rattle.bdd_size.proofs.clear_mark.Reads as clear-mark-reads
 use Rattle.bdd_size.proofs.wipe.Kinds as wipe-kinds
 use Rattle.bdd_size.proofs.wipe.Reads as wipe

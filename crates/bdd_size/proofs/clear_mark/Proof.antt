@@ -1,11 +1,11 @@
 -- The word with the mark taken off; a word with it is large enough.
 -- No loop.
 use Prim.Native.Nat.{_-_}
+use Rattle.bdd.specs.code.Rows.{MARK, put}
 use Rattle.bdd_size.proofs.MarkLaws.{mark-large}
 use Rattle.bdd_size.proofs.clear_mark.Statement.{statement}
 use Rattle.bdd_size.proofs.clear_mark.Tie as tie
 use Rattle.bdd_size.specs.code.Marks.{wiped}
-use Rattle.bdd.specs.code.Rows.{MARK, put}
 use borrow.Author.Needs.{needs}
 use mathlib.Core.Path.{_∙_, ap}
 

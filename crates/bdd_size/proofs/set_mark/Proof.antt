@@ -1,11 +1,11 @@
 -- The word with the mark added; a word without it leaves room.
 -- No loop.
 use Prim.Native.Nat.{_+_}
+use Rattle.bdd.specs.code.Rows.{MARK, put}
 use Rattle.bdd_size.proofs.MarkLaws.{mark-room}
 use Rattle.bdd_size.proofs.set_mark.Statement.{statement}
 use Rattle.bdd_size.proofs.set_mark.Tie as tie
 use Rattle.bdd_size.specs.code.Marks.{marked}
-use Rattle.bdd.specs.code.Rows.{MARK, put}
 use borrow.Author.Needs.{needs}
 use mathlib.Core.Path.{_∙_, ap}
 use native.Mathlib.Omega.{arith}

@@ -1,9 +1,9 @@
 -- The definition; a remainder is below its divisor.
 -- No loop.
 use Prim.Native.Nat.{_*_, _+_}
+use Rattle.bdd.specs.code.Store.{bucket}
 use Rattle.bdd_unique.proofs.bucket_of.Statement.{statement}
 use Rattle.bdd_unique.proofs.bucket_of.Tie as tie
-use Rattle.bdd.specs.code.Store.{bucket}
 use borrow.Author.Needs.{needs}
 use mathlib.Core.Path.{refl}
 use native.Mathlib.Nat.{mod-lt}

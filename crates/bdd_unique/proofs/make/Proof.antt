@@ -1,7 +1,7 @@
 -- Equal halves need no row; a row found or added holds the edges, the low one not inverted.
 -- No loop.
-use Rattle.bdd_unique.proofs.MakeLaws.{MakeAsked, Searched, make-added, make-found, make-full, make-row, make-same}
 use Rattle.bdd.proofs.references.edge_to.Reads as edge-to-reads
+use Rattle.bdd_unique.proofs.MakeLaws.{MakeAsked, Searched, make-added, make-found, make-full, make-row, make-same}
 use Rattle.bdd_unique.proofs.add.Reads as add-reads
 use Rattle.bdd_unique.proofs.find.Reads as find-reads
 use Rattle.bdd_unique.proofs.make.Lts as lts

@@ -1,10 +1,10 @@
 -- The bucket of the row is computed from its fields.
 -- No loop.
 use Prim.Native.Nat.{suc}
+use Rattle.bdd.specs.code.Rows.{put}
 use Rattle.bdd_unique.proofs.ChainLaws.{bucket-fields}
 use Rattle.bdd_unique.proofs.unlink.Statement.{statement}
 use Rattle.bdd_unique.proofs.unlink.Tie as tie
-use Rattle.bdd.specs.code.Rows.{put}
 use Rattle.bdd_unique.specs.code.Unique.{unlinked}
 use borrow.Author.Needs.{needs}
 use mathlib.Core.Path.{_∙_, ap, ap₂}
