@@ -2,10 +2,7 @@ pub mod RowsLaws
 pub mod ReferenceLaws
 pub mod DiagramLaws
 pub mod StoreLaws
-pub mod ChainLaws
-pub mod MakeLaws
-pub mod MarkLaws
-pub mod SizeLaws
+pub mod AgreeLaws
 pub mod SplitLaws
 pub mod DifferenceLaws
 pub mod OwnerLaws

@@ -1,6 +1,6 @@
 -- An owner that is set changes no row, no chain and no function.
 use Prim.Native.Nat.{_*_, _+_, _/_, _<_, _≤_, suc, ℕ}
-use Rattle.bdd.proofs.ChainLaws.{bucket-agree, canonical-agree}
+use Rattle.bdd.proofs.AgreeLaws.{bucket-agree, canonical-agree}
 use Rattle.bdd.proofs.DiagramLaws.{frame}
 use Rattle.bdd.proofs.RowsLaws.{head-sees, high-packed, high-sees, length-put, level-sees, low-sees, mark-sees, next-sees, owner-packed, owner-sees, put-row, put-same, put-word}
 use Rattle.bdd.proofs.StoreLaws.{store-frame}

@@ -1,6 +1,4 @@
-// Reduced ordered decision diagrams in a lent slice: a unique table of rows, and references to them.
+// Reduced ordered decision diagrams in a lent slice: rows, and references to them. The unique table of rows is in `bdd_unique`.
 pub mod difference;
 pub mod references;
 pub mod rows;
-pub mod size;
-pub mod unique;

@@ -1,11 +1,11 @@
 -- What the answer of a product says of parts and product steps, and of rows given back.
 use Prim.Native.Nat.{_+_, _<_, _≤_, ℕ}
-use Rattle.bdd.proofs.ChainLaws.{kept-then}
+use Rattle.bdd.proofs.AgreeLaws.{kept-then}
 use Rattle.bdd.proofs.DiagramLaws.{denote-perfect}
 use Rattle.bdd.proofs.StoreLaws.{part-stored, store-apart, store-frame, store-length}
 use Rattle.bdd.specs.Diagram.{Canonical, Reference, denote, storeOf}
 use Rattle.bdd.specs.code.Store.{Kept}
-use Rattle.bdd.specs.code.Unique.{GivenBack, Grown}
+use Rattle.bdd_unique.specs.code.Unique.{GivenBack, Grown}
 use Rattle.product_model.proofs.Ran as ran
 use Rattle.product_model.proofs.Run.{run-done, run-rows, run-steps}
 use Rattle.product_model.proofs.Store.{done-members, done-rows}

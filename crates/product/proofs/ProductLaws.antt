@@ -1,12 +1,12 @@
 -- The places of `multiply`, as laws on lists and numbers.
 use Prim.Native.Nat.{_+_, _-_, _/_, _<_, _≤_, ℕ}
 use Rattle.bdd.proofs.DiagramLaws.{reference-more}
-use Rattle.bdd.proofs.MakeLaws.{MakeAsked, grown-denote, grown-reference, grown-then, stays}
 use Rattle.bdd.proofs.SplitLaws.{SplitAt, split-at}
 use Rattle.bdd.specs.Diagram.{denote}
 use Rattle.bdd.specs.code.Split.{EndsAt, GoesOn, Halved}
-use Rattle.bdd.specs.code.Unique.{MadeAt, MadeFull}
 use Rattle.bdd.specs.declared.references.Halves.{Halves}
+use Rattle.bdd_unique.proofs.MakeLaws.{MakeAsked, grown-denote, grown-reference, grown-then, stays}
+use Rattle.bdd_unique.specs.code.Unique.{MadeAt, MadeFull}
 use Rattle.product_model.proofs.Cases.{count-room}
 use Rattle.product_model.proofs.Equations.{run-both, run-terminal}
 use Rattle.product_model.specs.Run.{Book, Outcome, _andThen_, addRow, run}

@@ -4,7 +4,7 @@ use Rattle.bdd.proofs.DiagramLaws.{denote-skip}
 use Rattle.bdd.proofs.StoreLaws.{store-length}
 use Rattle.bdd.specs.Diagram.{denote}
 use Rattle.bdd.specs.code.Rows.{levelAt}
-use Rattle.bdd.specs.code.Unique.{MadeAt, MadeFull, addPart, join}
+use Rattle.bdd_unique.specs.code.Unique.{MadeAt, MadeFull, addPart, join}
 use Rattle.product_model.proofs.Cases.{add-found, add-full, add-new}
 use Rattle.product_model.proofs.Equations.{run-skip}
 use Rattle.product_model.specs.Run as model

@@ -3,7 +3,7 @@ use Prim.Native.Nat.{_<_, _^_, _≤_, ℕ}
 use Rattle.bdd.specs.Diagram.{Reference, denote, storeOf}
 use Rattle.bdd.specs.code.Rows.{MARK}
 use Rattle.bdd.specs.code.Store.{Store}
-use Rattle.bdd.specs.code.Unique.{Grown, MadeAt, MadeFull}
+use Rattle.bdd_unique.specs.code.Unique.{Grown, MadeAt, MadeFull}
 use Rattle.product_model.specs.Run.{Book, Outcome, done, run, shortOfRows, shortOfSteps}
 use Rattle.product.specs.declared.Product.the-variants.{Done, ShortOfRows, ShortOfSteps}
 use Rattle.product.specs.declared.Product.{Product}

@@ -1,6 +1,6 @@
 // The product: the recursive AND of two diagrams, counted.
 use bdd::references::Ending;
-use bdd::unique::Made;
+use bdd_unique::Made;
 ghost use Prim.Native.Nat.{_-_, _<_, _≤_};
 ghost use Rattle.bdd.specs.Diagram.{Reference};
 ghost use Rattle.bdd.specs.code.Rows.{MARK};
@@ -91,7 +91,7 @@ fn add_row(
     requires high { ⌜ Reference (now rows) used (level - 1) high ⌝ }
     ensures { λ r. ⌜ AddsRow (now (rows .entry)) (now (rows .exit)) limit used level low high steps r ⌝ }
 {
-    let made = bdd::unique::make(rows, used, limit, level, low, high);
+    let made = bdd_unique::make(rows, used, limit, level, low, high);
     match made {
         Made::At {
             reference,

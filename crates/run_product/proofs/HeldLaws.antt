@@ -1,11 +1,11 @@
 -- References stay good while rows are added, given back, and followed.
 use Prim.Native.Nat.{_%_, _-_, _/_, _<_, _≤_, suc, zero, ℕ}
 use Rattle.bdd.proofs.DiagramLaws.{cofactor-below, constant-reference, frame-reference}
-use Rattle.bdd.proofs.MakeLaws.{grown-reference}
 use Rattle.bdd.proofs.ReferenceLaws.{edge-row}
 use Rattle.bdd.specs.Diagram.{Reference, cofactor, edge}
 use Rattle.bdd.specs.code.Store.{Store}
-use Rattle.bdd.specs.code.Unique.{GivenBack, Grown}
+use Rattle.bdd_unique.proofs.MakeLaws.{grown-reference}
+use Rattle.bdd_unique.specs.code.Unique.{GivenBack, Grown}
 use Rattle.product.proofs.Laws.{back}
 use Rattle.run_product.specs.code.Held.{AllWalk, Held, Turned, Walks}
 use Rattle.run_product.specs.declared.diagram.Turn.{Turn}

@@ -2,12 +2,12 @@
 use crate::circuit::VERTICES;
 use crate::circuit::WORDS;
 use bdd::references::edge_to;
-use bdd::unique::Made;
+use bdd_unique::Made;
 use product::Product;
 ghost use Prim.Native.Nat.{_%_, _/_, _<_, _^_, _≤_};
 ghost use Rattle.bdd.specs.Diagram.{edge};
 ghost use Rattle.bdd.specs.code.Store.{Store};
-ghost use Rattle.bdd.specs.code.Unique.{GivenBack};
+ghost use Rattle.bdd_unique.specs.code.Unique.{GivenBack};
 ghost use Rattle.run_product.specs.code.Held.{Held, Turned};
 ghost use lib.ListN.{getD};
 ghost use mathlib.Core.Path.{_≡_};
@@ -35,7 +35,7 @@ fn input_row(
     requires few { ⌜ (1 ≤ i) × (i ≤ inputs) × (inputs ≤ 10) ⌝ }
     ensures { λ u. ⌜ Held (now (rows .exit)) (now (references .exit)) limit u inputs ⌝ }
 {
-    let made = bdd::unique::make(rows, used, limit, inputs + 1 - i, 0, 1);
+    let made = bdd_unique::make(rows, used, limit, inputs + 1 - i, 0, 1);
     match made {
         Made::At {
             reference,
@@ -91,7 +91,7 @@ fn break_off(
     ensures back { λ _. ⌜ GivenBack (now (rows .entry)) (now (rows .exit)) limit used kept ⌝ }
     ensures turn { λ t. ⌜ (t .next ≡ v) × (t .stop ≡ v) × (t .used ≡ kept) × (t .steps ≡ steps) ⌝ }
 {
-    bdd::unique::give_back(rows, used, limit, kept);
+    bdd_unique::give_back(rows, used, limit, kept);
     Turn {
         next: v,
         stop: v,

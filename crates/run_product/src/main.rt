@@ -73,9 +73,9 @@ fn run(
     let t = diagram::ands(rows, first, limit, inputs, &mut references, words, n, most);
     let wrong = values::mismatches(rows, inputs, settings, &references, words, t.next);
     let last = t.next - 1;
-    let size = bdd::size::size(rows, t.used, limit, references[last]);
+    let size = bdd_size::size(rows, t.used, limit, references[last]);
     show(name, size, t, limit, most, wrong);
-    bdd::unique::give_back(rows, t.used, limit, 0);
+    bdd_unique::give_back(rows, t.used, limit, 0);
 }
 
 // A parity and an adder.
@@ -170,13 +170,13 @@ fn no_rows() -> [u32; ROOM]
 fn main() {
     let mut rows = no_rows();
     let mut words = [0usize; WORDS];
-    bdd::unique::clear(&mut rows, 1024);
+    bdd_unique::clear(&mut rows, 1024);
     arithmetic(&mut rows, &mut words);
     selection(&mut rows, &mut words);
     mixed(&mut rows, &mut words);
     counted(&mut rows, &mut words);
-    bdd::unique::clear(&mut rows, 164);
+    bdd_unique::clear(&mut rows, 164);
     tight(&mut rows, 164, &mut words);
-    bdd::unique::clear(&mut rows, 163);
+    bdd_unique::clear(&mut rows, 163);
     tight(&mut rows, 163, &mut words);
 }

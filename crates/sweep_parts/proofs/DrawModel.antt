@@ -2,16 +2,16 @@
 use Prim.Native.Nat.{_*_, _+_, _/_, _<_, _≤_, suc, zero, ℕ}
 use Rattle.aig.proofs.IndexLaws.{row-holds}
 use Rattle.aig.specs.Lookup.{firstWord, secondWord, withRow}
-use Rattle.bdd.proofs.ChainLaws.{agree-self}
+use Rattle.bdd.proofs.AgreeLaws.{agree-self}
 use Rattle.bdd.proofs.DiagramLaws.{frame, frame-reference}
-use Rattle.bdd.proofs.MakeLaws.{grown-denote, grown-reference}
 use Rattle.bdd.proofs.OwnerLaws.{OwnerSet, owner-set}
 use Rattle.bdd.proofs.RowsLaws.{length-put}
 use Rattle.bdd.specs.Diagram.{Canonical, denote, storeOf}
 use Rattle.bdd.specs.code.Owners.{withOwner}
 use Rattle.bdd.specs.code.Rows.{RADIX, highAt, ownerAt, put}
 use Rattle.bdd.specs.code.Store.{Agree, Store}
-use Rattle.bdd.specs.code.Unique.{Grown}
+use Rattle.bdd_unique.proofs.MakeLaws.{grown-denote, grown-reference}
+use Rattle.bdd_unique.specs.code.Unique.{Grown}
 use Rattle.product.specs.Product.{bookOf}
 use Rattle.sweep_graph.proofs.StageLaws.{stages-set}
 use Rattle.sweep_graph.specs.code.Stages.{withStage, wordStage}

@@ -4,7 +4,7 @@ use Rattle.aig.specs.Lookup.{firstWord}
 use Rattle.bdd.specs.Diagram.{storeOf}
 use Rattle.bdd.specs.code.Rows.{ownerAt}
 use Rattle.bdd.specs.code.Store.{Kept}
-use Rattle.bdd.specs.code.Unique.{GivenBack, Grown}
+use Rattle.bdd_unique.specs.code.Unique.{GivenBack, Grown}
 use Rattle.product.proofs.Laws.{back, back-functions}
 use Rattle.product.specs.Product.{bookOf}
 use Rattle.product_model.specs.Run.{done}

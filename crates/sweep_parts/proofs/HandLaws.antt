@@ -3,7 +3,7 @@ use Prim.Native.Nat.{_*_, _+_, _/_, _<_, _≤_, suc, zero, ℕ}
 use Rattle.aig.proofs.IndexLaws.{row-holds}
 use Rattle.aig.specs.Literal.{vertexOf}
 use Rattle.aig.specs.Lookup.{firstWord, secondWord, withRow}
-use Rattle.bdd.proofs.ChainLaws.{agree-then}
+use Rattle.bdd.proofs.AgreeLaws.{agree-then}
 use Rattle.bdd.proofs.DiagramLaws.{canonical, constant-reference, denote-constant}
 use Rattle.bdd.proofs.OwnerLaws.{length-owner}
 use Rattle.bdd.proofs.ReferenceLaws.{edge-row}

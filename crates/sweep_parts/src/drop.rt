@@ -1,11 +1,11 @@
 // A product that is too large, or short.
 use crate::task::Task;
-use bdd::unique::give_back;
+use bdd_unique::give_back;
 use sweep_graph::stage::DROPPED;
 use sweep_graph::stage::set_stage;
 ghost use Prim.Native.Nat.{_*_, _<_, _≤_};
 ghost use Rattle.bdd.specs.code.Store.{Store};
-ghost use Rattle.bdd.specs.code.Unique.{GivenBack};
+ghost use Rattle.bdd_unique.specs.code.Unique.{GivenBack};
 ghost use Rattle.sweep_graph.specs.code.Stages.{withStage};
 ghost use lib.ListN.{length, set};
 ghost use mathlib.Core.Path.{_≡_};

@@ -3,7 +3,7 @@ use Prim.Native.Nat.{_+_, _-_, _/_, _<_, _≤_, suc, zero, ℕ}
 use Rattle.bdd.proofs.DiagramLaws.{denote-constant, denote-skip, reference-more}
 use Rattle.bdd.specs.Diagram.{denote}
 use Rattle.bdd.specs.code.Rows.{levelAt}
-use Rattle.bdd.specs.code.Unique.{MadeAt, MadeFull}
+use Rattle.bdd_unique.specs.code.Unique.{MadeAt, MadeFull}
 use Rattle.product.proofs.RunLaws.{row-full, row-made}
 use Rattle.product.specs.Product.{bookOf}
 use Rattle.product_model.specs.Run.{Book, addPart, addRow, done, shortOfRows}

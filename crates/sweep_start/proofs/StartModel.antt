@@ -1,10 +1,10 @@
 -- The start of a sweep: the words that it begins with, normalised, stand for the model's state before the inputs get their rows.
 use Prim.Native.Nat.{_*_, _+_, _-_, _<_, ℕ}
 use Rattle.aig.specs.Lookup.{cleared, firstWord, secondWord}
-use Rattle.bdd.proofs.ChainLaws.{agree-self}
+use Rattle.bdd.proofs.AgreeLaws.{agree-self}
 use Rattle.bdd.proofs.DiagramLaws.{constant-reference, denote-constant}
 use Rattle.bdd.specs.Diagram.{storeOf}
-use Rattle.bdd.specs.code.Unique.{Cleared}
+use Rattle.bdd_unique.specs.code.Unique.{Cleared}
 use Rattle.product.specs.Product.{bookOf}
 use Rattle.sweep_graph.proofs.BeginLaws.{begin-marks, begin-room, begin-stages, cleared-length, cleared-word}
 use Rattle.sweep_graph.proofs.GraphLaws.{graph-kept}

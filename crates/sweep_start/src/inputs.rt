@@ -1,6 +1,6 @@
 // Each input gets its row.
-use bdd::unique::Made;
-use bdd::unique::make;
+use bdd_unique::Made;
+use bdd_unique::make;
 use sweep_parts::draw::draw;
 use sweep_parts::task::Task;
 ghost use Rattle.sweep_parts.specs.code.Arrays.{arrays, arraysOf};

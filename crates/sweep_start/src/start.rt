@@ -1,7 +1,7 @@
 // The start of a sweep: up to the first turn.
 use crate::inputs::Inputs;
 use crate::inputs::give_rows;
-use bdd::unique::clear;
+use bdd_unique::clear;
 use sweep_graph::begin::begin;
 use sweep_graph::normalise::normalise;
 use sweep_graph::take::takes;

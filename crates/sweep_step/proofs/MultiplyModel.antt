@@ -3,7 +3,7 @@ use Prim.Native.Nat.{_*_, _<_, _≤_, ℕ}
 use Rattle.aig.specs.Literal.{vertexOf}
 use Rattle.aig.specs.Lookup.{firstWord, secondWord}
 use Rattle.bdd.specs.code.Store.{Store}
-use Rattle.bdd.specs.code.Unique.{GivenBack}
+use Rattle.bdd_unique.specs.code.Unique.{GivenBack}
 use Rattle.product.specs.Product.{Multiplied, Multiplies, bookOf, outcomeOf, usedBy}
 use Rattle.product.specs.declared.Product.the-variants.{Done, ShortOfRows, ShortOfSteps}
 use Rattle.product.specs.declared.Product.{Product}

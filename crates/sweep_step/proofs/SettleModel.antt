@@ -1,8 +1,8 @@
 -- A product that is done, dropped or met, as in the model.
 use Prim.Native.Nat.{_*_, _<_, _^_, _≤_, ℕ}
-use Rattle.bdd.specs.code.Marks.{Sized}
 use Rattle.bdd.specs.code.Store.{Store}
-use Rattle.bdd.specs.code.Unique.{GivenBack}
+use Rattle.bdd_size.specs.code.Marks.{Sized}
+use Rattle.bdd_unique.specs.code.Unique.{GivenBack}
 use Rattle.sweep_graph.specs.code.Stages.{withStage}
 use Rattle.sweep_model.specs.State.{functionOf}
 use Rattle.sweep_parts.proofs.DrawModel.{Draws}

@@ -1,6 +1,6 @@
 // A product that is done.
 use crate::meet::meet;
-use bdd::size::size;
+use bdd_size::size;
 use sweep_parts::drop::drop_vertex;
 use sweep_parts::task::Task;
 ghost use Prim.Native.Nat.{_*_, _≤_};

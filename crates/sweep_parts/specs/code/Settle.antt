@@ -1,7 +1,7 @@
 -- A product that is done is dropped or met.
 use Prim.Native.Nat.{ℕ}
 use Rattle.bdd.specs.Diagram.{Reference, denote}
-use Rattle.bdd.specs.code.Unique.{Grown}
+use Rattle.bdd_unique.specs.code.Unique.{Grown}
 use Rattle.product.specs.Product.{bookOf}
 use Rattle.product_model.specs.Run.{done}
 use Rattle.sweep_model.specs.State.{State, functionOf, withBook}

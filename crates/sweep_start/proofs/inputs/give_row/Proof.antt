@@ -1,6 +1,6 @@
 -- What `make` answers decides; no loop.
 -- One law for each answer.
-use Rattle.bdd.specs.code.Unique.{MadeAt, MadeFull}
+use Rattle.bdd_unique.specs.code.Unique.{MadeAt, MadeFull}
 use Rattle.sweep_start.proofs.InputLaws.{made-small, made-within, row-asked}
 use Rattle.sweep_start.proofs.inputs.give_row.Statement.{statement}
 use Rattle.sweep_start.proofs.inputs.give_row.Tie as tie
