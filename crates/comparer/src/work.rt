@@ -1,20 +1,20 @@
 // A comparison that is not refused.
-use crate::task::task_of;
 use compare_model::Limits;
 use compare_parts::copy::copy_in;
 use compare_parts::copy::copy_out;
 use compare_parts::reply::reply_of;
 use compare_parts::reply::write_setting;
+use crate::task::task_of;
 use sweep::sweep;
 use sweep_model::Reply;
-use sweep_parts::end::Ended;
+use sweep_state::end::Ended;
 ghost use Prim.Native.Nat.{_*_, _<_};
 ghost use Rattle.compare_model.specs.Compare.{limitsOf, saidBy, settingLeft, tableLeft};
 ghost use Rattle.compare_model.specs.Passed.{Enough, LimitsWithin};
 ghost use Rattle.compare_model.specs.Said.{saidOf};
 ghost use Rattle.comparer.specs.Lent.{Slice, roomOfLists, slices};
 ghost use Rattle.comparer.specs.code.Work.{Finishes, Swept};
-ghost use Rattle.sweep_parts.specs.code.Ending.{verdictOf};
+ghost use Rattle.sweep_state.specs.code.Ending.{verdictOf};
 ghost use Rattle.table.specs.Accepted.{Accepted};
 ghost use Rattle.table.specs.Table.{inputsOf, outputsOf, verticesOf};
 ghost use lib.ListN.{length, take};

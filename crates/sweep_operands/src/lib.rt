@@ -1,0 +1,2 @@
+// A vertex's operands are multiplied.
+pub mod operands;
