@@ -1,6 +1,6 @@
 // The line of a sweep.
-use bdd::difference::first_difference;
 use crate::asked::MAX_INPUTS;
+use bdd::difference::first_difference;
 use libc::STDOUT_FILENO;
 use sweep_graph::words::first_word;
 use sweep_graph::words::second_word;

@@ -1,8 +1,8 @@
 // A vertex gets its diagram.
+use sweep_graph::reference::own_row;
 use sweep_graph::stage::WAITING;
 use sweep_graph::stage::set_stage;
 use sweep_graph::words::set_words;
-use sweep_take::take::own_row;
 ghost use Prim.Native.Nat.{_*_, _+_, _/_, _<_, _≤_};
 ghost use Rattle.bdd.specs.code.Rows.{RADIX};
 ghost use Rattle.sweep_state.specs.code.Arrays.{arraysOf, drawnAt};

@@ -1,3 +1,4 @@
-// A vertex gets a diagram, or is dropped.
+// The product of a vertex's operands is taken; it gets its diagram, or is dropped.
 pub mod draw;
 pub mod drop;
+pub mod operands;

@@ -1,6 +1,6 @@
 // The two literals looked at.
 use aig::literal::Literal;
-use bdd::references::edge_to;
+use sweep_graph::reference::reference_of;
 use sweep_graph::stage::has_diagram;
 use sweep_graph::words::first_word;
 use sweep_normalise::normalise::resolve;
@@ -9,22 +9,10 @@ use sweep_state::end::Seen;
 use sweep_state::task::Task;
 ghost use Prim.Native.Nat.{_*_, _<_};
 ghost use Rattle.aig.specs.Literal.{vertexOf};
-ghost use Rattle.aig.specs.Lookup.{firstWord};
-ghost use Rattle.bdd.specs.Diagram.{edge};
 ghost use Rattle.sweep_graph.specs.code.Takes.{hasWord};
 ghost use Rattle.sweep_state.specs.code.Look.{Looks, comparedAs, seenAt, seenBy};
 ghost use lib.ListN.{length};
 ghost use mathlib.Core.Path.{_≡_};
-
-// The reference of a literal's function, by its vertex's diagram.
-pub fn reference_of(diagrams: &[u32], r: Literal) -> usize
-    requires { ⌜ 2 * vertexOf (r .0) < length (now diagrams) ⌝ }
-    ensures { λ c. ⌜ c ≡ edge (firstWord (now (diagrams .entry)) (vertexOf (r .0))) (r .0) ⌝ }
-{
-    let own = first_word(diagrams, r.vertex());
-    let inverted = r.0;
-    edge_to(own as usize, inverted as usize)
-}
 
 // Two literals with diagrams: one reference exactly where the functions are equal.
 fn compare(diagrams: &[u32], l: Literal, r: Literal) -> Seen

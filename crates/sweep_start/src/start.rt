@@ -1,7 +1,7 @@
 // The start of a sweep: up to the first turn.
-use bdd::unique::clear;
 use crate::inputs::Inputs;
 use crate::inputs::give_rows;
+use bdd::unique::clear;
 use sweep_look::look::look;
 use sweep_model::Cause;
 use sweep_normalise::normalise::normalise;

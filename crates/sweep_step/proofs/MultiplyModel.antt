@@ -20,7 +20,7 @@ use Rattle.sweep_state.proofs.LookModel.{LiteralDrawn, has-stage, literal-drawn
 use Rattle.sweep_state.specs.code.Ending.{Ends, verdictOf}
 use Rattle.sweep_state.specs.code.Look.{SeenRefers, progressOf, seenBy}
 use Rattle.sweep_state.specs.code.Meet.{Workspace, workspace}
-use Rattle.sweep_operands.specs.code.Operands.{ProductAsked, firstOperand, secondOperand}
+use Rattle.sweep_draw.specs.code.Operands.{ProductAsked, firstOperand, secondOperand}
 use Rattle.sweep_state.specs.code.Settle.{BeforeProduct, Ended, Settled, onWorkspace, settledState, stateBefore, stateOn, workspaceBefore}
 use Rattle.sweep_state.specs.code.Arrays.{arrays}
 use Rattle.sweep_state.specs.code.Words.{posed}

@@ -2,8 +2,8 @@
 use crate::settle::settle;
 use product::Product;
 use sweep_draw::drop::break_off;
+use sweep_draw::operands::take_product;
 use sweep_look::look::look;
-use sweep_operands::operands::take_product;
 use sweep_state::end::Seen;
 use sweep_state::task::Task;
 ghost use Prim.Native.Nat.{_*_, _≤_};

@@ -1,7 +1,7 @@
 // What a newly merged vertex hands over to the vertex that it was merged into.
 use aig::literal::Literal;
 use bdd::references::edge_to;
-use bdd::rows::set_owner;
+use sweep_graph::reference::own_row;
 use sweep_graph::stage::GONE;
 use sweep_graph::stage::has_diagram;
 use sweep_graph::stage::is_gone;
@@ -10,11 +10,9 @@ use sweep_graph::stage::woken;
 use sweep_graph::words::first_word;
 use sweep_graph::words::second_word;
 use sweep_graph::words::set_words;
-ghost use Prim.Native.Nat.{_*_, _+_, _-_, _/_, _<_, _≤_};
+ghost use Prim.Native.Nat.{_*_, _+_, _-_, _<_};
 ghost use Rattle.aig.specs.Literal.{vertexOf};
 ghost use Rattle.aig.specs.Lookup.{firstWord};
-ghost use Rattle.bdd.specs.code.Owners.{withOwner};
-ghost use Rattle.bdd.specs.code.Rows.{RADIX};
 ghost use Rattle.sweep_graph.specs.code.Graph.{Graph};
 ghost use Rattle.sweep_graph.specs.code.Takes.{Handing, TakesRoom, handedOver, held, helds, takeWords, takenDiagrams, takesWords, wakeWords};
 ghost use lib.ListN.{length};
@@ -30,18 +28,6 @@ fn wake_at(stages: &mut [u32], w: u32)
     }
     let stage = woken(first_word(&stages[..], w));
     set_stage(stages, w, stage);
-}
-
-// The row of a reference has the owner w; the constant has no row.
-pub fn own_row(rows: &mut [u32], reference: u32, w: u32)
-    requires { ⌜ (reference / 2 * 4 ≤ length (now rows)) × (w < RADIX) ⌝ }
-    ensures { λ _. ⌜ now (rows .exit) ≡ withOwner (now (rows .entry)) (reference / 2) w ⌝ }
-{
-    let row = (reference / 2) as usize;
-    if row == 0 {
-        return;
-    }
-    set_owner(rows, row, w as usize);
 }
 
 // The diagram of v goes to the vertex of x, inverted where x is, unless that has one of its own.

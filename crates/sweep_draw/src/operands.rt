@@ -1,11 +1,11 @@
 // The product of a vertex's operands.
 use aig::literal::Literal;
 use product::Product;
+use sweep_graph::reference::reference_of;
 use sweep_graph::words::first_word;
 use sweep_graph::words::second_word;
-use sweep_look::look::reference_of;
 use sweep_state::task::Task;
-ghost use Rattle.sweep_operands.specs.code.Operands.{ProductAsked, ProductTaken};
+ghost use Rattle.sweep_draw.specs.code.Operands.{ProductAsked, ProductTaken};
 
 // The product of the functions of v's two operands.
 pub fn take_product(

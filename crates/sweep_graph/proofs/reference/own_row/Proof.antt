@@ -2,8 +2,8 @@
 -- Any other is set by the call.
 use Rattle.bdd.specs.code.Owners.{withOwner}
 use Rattle.bdd.specs.code.Rows.{put}
-use Rattle.sweep_take.proofs.take.own_row.Statement.{statement}
-use Rattle.sweep_take.proofs.take.own_row.Tie as tie
+use Rattle.sweep_graph.proofs.reference.own_row.Statement.{statement}
+use Rattle.sweep_graph.proofs.reference.own_row.Tie as tie
 use borrow.Author.Needs.{needs}
 use mathlib.Core.Path.{refl}
 

@@ -1,8 +1,8 @@
 -- The operands' references are multiplied; no loop.
 -- Each call gives an equation.
-use Rattle.sweep_operands.proofs.OperandLaws.{operands-asked, operands-multiplied}
-use Rattle.sweep_operands.proofs.operands.take_product.Statement.{statement}
-use Rattle.sweep_operands.proofs.operands.take_product.Tie as tie
+use Rattle.sweep_draw.proofs.OperandLaws.{operands-asked, operands-multiplied}
+use Rattle.sweep_draw.proofs.operands.take_product.Statement.{statement}
+use Rattle.sweep_draw.proofs.operands.take_product.Tie as tie
 use Rattle.sweep_state.specs.code.Look.{referenceOf}
 use borrow.Author.Needs.{needs}
 use mathlib.Core.Path.{_∙_, ap}

@@ -3,8 +3,8 @@
 use Prim.Native.Nat.{ℕ}
 use Rattle.aig.specs.Lookup.{firstWord}
 use Rattle.bdd.specs.Diagram.{edge}
-use Rattle.sweep_look.proofs.look.reference_of.Statement.{statement}
-use Rattle.sweep_look.proofs.look.reference_of.Tie as tie
+use Rattle.sweep_graph.proofs.reference.reference_of.Statement.{statement}
+use Rattle.sweep_graph.proofs.reference.reference_of.Tie as tie
 use borrow.Author.Needs.{needs}
 use mathlib.Core.Path.{_∙_, ap}
 

@@ -1,2 +1,0 @@
-// A vertex's operands are multiplied.
-pub mod operands;
