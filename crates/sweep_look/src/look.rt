@@ -1,9 +1,9 @@
 // The two literals looked at.
 use aig::literal::Literal;
 use sweep_graph::reference::reference_of;
+use sweep_graph::resolve::resolve;
 use sweep_graph::stage::has_diagram;
 use sweep_graph::words::first_word;
-use sweep_normalise::normalise::resolve;
 use sweep_state::end::End;
 use sweep_state::end::Seen;
 use sweep_state::task::Task;

@@ -1,20 +1,18 @@
--- What a literal became, one turn of normalising, and the pass from turn to turn.
+-- One turn of normalising, and the pass from turn to turn.
 use Prim.Native.Nat.{_*_, _+_, _-_, _<_, _≤_, suc, zero, ℕ}
 use Rattle.aig.proofs.FoldLaws.{pair-unfolded}
 use Rattle.aig.proofs.IndexLaws.{clear-starts, enter-keeps, equal-keeps}
 use Rattle.aig.specs.Fold.{foldOf}
-use Rattle.aig.specs.Literal.{lit, literalOf, onto, vertexOf}
+use Rattle.aig.specs.Literal.{lit, literalOf}
 use Rattle.aig.specs.Lookup.{Indexed, cleared, entered, firstVertex, firstWord, secondWord, withRow}
 use Rattle.aig.specs.declared.fold.Folded.the-variants.{Pair}
 use Rattle.aig.specs.declared.fold.Folded.{Folded}
 use Rattle.aig.specs.declared.literal.Literal.{Literal}
 use Rattle.aig.specs.declared.lookup.Found.the-variants.{At, Nothing}
 use Rattle.sweep_graph.specs.code.Graph.{Graph, Turn}
-use Rattle.sweep_model.proofs.Rows.{resolve-merged, resolve-stays}
 use Rattle.sweep_model.proofs.Settle.{normalised, tidy-first}
 use Rattle.sweep_model.specs.Fit.{Downward}
 use Rattle.sweep_model.specs.Normalise.{foldedRow, foundRow, normaliseFrom, normaliseRow, resolve}
-use borrow.Author.Tests.{eq-eqb, ne-eqb}
 use lib.ListN.{length}
 use mathlib.Core.Bool.{false}
 use mathlib.Core.List.{List}
@@ -24,26 +22,6 @@ use native.Mathlib.Omega.{arith}
 -- The number of a literal.
 abbrev number : Literal → ℕ
 number r = r .0
-
--- The two words of a literal's vertex, as they were read, decide what the literal became.
-module _
-    (pairs : List ℕ) (r : ℕ) {v x y : ℕ} (of-vertex : v ≡ vertexOf r) (of-first : x ≡ firstWord pairs v) (of-second : y ≡ secondWord pairs v) where
-  is-first : firstWord pairs (vertexOf r) ≡ x
-  is-first = ap (firstWord pairs) (sym of-vertex) ∙ sym of-first
-
-  is-second : secondWord pairs (vertexOf r) ≡ y
-  is-second = ap (secondWord pairs) (sym of-vertex) ∙ sym of-second
-
-  -- Equal: its vertex was merged.
-  pub became-other : x ≡ y → resolve pairs r ≡ onto x r
-  became-other e =
-      resolve-merged pairs r (eq-eqb (firstWord pairs (vertexOf r)) (secondWord pairs (vertexOf r)) (is-first ∙ e ∙ sym is-second))
-      ∙ ap (λ (z : ℕ). onto z r) is-first
-
-  -- Unequal: it stands for itself.
-  pub stayed : (x ≡ y → ⊥) → resolve pairs r ≡ r
-  stayed d =
-      resolve-stays pairs r (ne-eqb (firstWord pairs (vertexOf r)) (secondWord pairs (vertexOf r)) (λ e. d (sym is-first ∙ e ∙ is-second)))
 
 module _ {pairs look after : List ℕ} {v places : ℕ} (t : Turn pairs v look places) where
   -- A row of equal words needs no entry.

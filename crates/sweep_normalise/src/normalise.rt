@@ -1,4 +1,4 @@
-// Normalising the rows of the working graph, upwards. A row is the vertex's two operands or, twice, the literal that it was merged into.
+// Normalising the rows of the working graph, upwards.
 use aig::fold::Folded;
 use aig::fold::fold_pair;
 use aig::literal::Literal;
@@ -6,27 +6,16 @@ use aig::lookup::Found;
 use aig::lookup::clear;
 use aig::lookup::enter;
 use aig::lookup::find_vertex;
+use sweep_graph::resolve::resolve;
 use sweep_graph::words::first_word;
 use sweep_graph::words::second_word;
 use sweep_graph::words::set_words;
 ghost use Prim.Native.Nat.{_*_, _+_, _-_, _<_, _≤_};
-ghost use Rattle.aig.specs.Literal.{lit, vertexOf};
 ghost use Rattle.aig.specs.Lookup.{Indexed, firstVertex};
 ghost use Rattle.sweep_graph.specs.code.Graph.{Graph, Turn};
-ghost use Rattle.sweep_model.specs.Normalise.{foundRow, normaliseFrom, normaliseRow, resolve};
+ghost use Rattle.sweep_model.specs.Normalise.{foundRow, normaliseFrom, normaliseRow};
 ghost use lib.ListN.{length};
 ghost use mathlib.Core.Path.{_≡_};
-
-// What a literal became: the one that its vertex was merged into, inverted where it is, or else itself.
-pub fn resolve(pairs: &[u32], r: Literal) -> Literal
-    requires { ⌜ 2 * vertexOf (r .0) + 1 < length (now pairs) ⌝ }
-    ensures { λ x. ⌜ x ≡ lit (resolve (now (pairs .entry)) (r .0)) ⌝ }
-{
-    let v = r.vertex();
-    let x = first_word(pairs, v);
-    let y = second_word(pairs, v);
-    if x == y { Literal(x).onto(r) } else { r }
-}
 
 // Vertex v, whose operands come to the pair (p, q), is merged into the first vertex that has the pair, or else has it and is entered.
 fn find_again(pairs: &mut [u32], look: &mut [u32], places: usize, v: u32, p: u32, q: u32)

@@ -1,9 +1,9 @@
 -- The row's two words decide: equal, the literal became the one they name; else it stays.
 -- One law for each return; no loop.
 use Rattle.aig.specs.Literal.{lit}
-use Rattle.sweep_normalise.proofs.NormaliseLaws.{became-other, stayed}
-use Rattle.sweep_normalise.proofs.normalise.resolve.Statement.{statement}
-use Rattle.sweep_normalise.proofs.normalise.resolve.Tie as tie
+use Rattle.sweep_graph.proofs.ResolveLaws.{became-other, stayed}
+use Rattle.sweep_graph.proofs.resolve.resolve.Statement.{statement}
+use Rattle.sweep_graph.proofs.resolve.resolve.Tie as tie
 use borrow.Author.Needs.{needs}
 use mathlib.Core.Path.{_∙_, ap, sym}
 
