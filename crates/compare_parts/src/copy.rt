@@ -1,6 +1,6 @@
 // The table's rows copied to the working graph, and the graph's rows and the outputs back.
 use aig::literal::Literal;
-use sweep_graph::normalise::resolve;
+use sweep_graph::resolve::resolve;
 use table::HEADER;
 ghost use Prim.Native.Nat.{_*_, _+_, _<_, _≤_, ℕ};
 ghost use Rattle.aig.specs.Literal.{vertexOf};

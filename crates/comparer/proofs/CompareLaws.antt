@@ -6,8 +6,8 @@ use Rattle.compare_model.specs.Passed.{Passed}
 use Rattle.compare_model.specs.Said.{Said, saidOf}
 use Rattle.comparer.specs.Lent.{left}
 use Rattle.comparer.specs.code.Work.{Finishes, SweepRan}
-use Rattle.sweep_parts.specs.code.Ending.{verdictOf}
-use Rattle.sweep_parts.specs.declared.end.Ended.{Ended}
+use Rattle.sweep_state.specs.code.Ending.{verdictOf}
+use Rattle.sweep_state.specs.declared.end.Ended.{Ended}
 use Rattle.sweep_model.specs.Sweep.{Verdict}
 use Rattle.sweep_model.specs.declared.Reply.the-variants.{Refused}
 use Rattle.sweep_model.specs.declared.Reply.{Reply}

@@ -7,13 +7,13 @@ use Rattle.compare_model.specs.Passed.{Enough, LimitsWithin}
 use Rattle.compare_model.specs.declared.Limits.{Limits}
 use Rattle.comparer.specs.Lent.{given, holding, roomOfLists}
 use Rattle.comparer.specs.code.Work.{Posed, SweepRan}
-use Rattle.sweep_parts.specs.code.Ending.{verdictOf}
-use Rattle.sweep_parts.specs.code.Arrays.{arrays}
-use Rattle.sweep_parts.specs.code.Meet.{Workspace, workspace}
+use Rattle.sweep_state.specs.code.Ending.{verdictOf}
+use Rattle.sweep_state.specs.code.Arrays.{arrays}
+use Rattle.sweep_state.specs.code.Meet.{Workspace, workspace}
 use Rattle.sweep_start.specs.code.Start.{HasFunctions, SweepAsked}
 use Rattle.sweep.specs.code.Sweep.{SweepAnswers, Sweeps}
-use Rattle.sweep_parts.specs.declared.end.Ended.{Ended}
-use Rattle.sweep_parts.specs.declared.task.Task.{Task}
+use Rattle.sweep_state.specs.declared.end.Ended.{Ended}
+use Rattle.sweep_state.specs.declared.task.Task.{Task}
 use Rattle.sweep_model.proofs.Kept.{sweep-steady}
 use Rattle.sweep_model.specs.Fit.{Fit}
 use Rattle.sweep_model.specs.Sweep.{Result, sweep}

@@ -1,6 +1,6 @@
 // What the sweep is asked.
 use compare_model::Limits;
-use sweep_parts::task::Task;
+use sweep_state::task::Task;
 ghost use Prim.Native.Nat.{_<_};
 ghost use Rattle.comparer.specs.code.Work.{Posed};
 ghost use Rattle.table.specs.Accepted.{WellFormed};

@@ -6,12 +6,12 @@ use Rattle.sweep.specs.code.Sweep.{Sweeps}
 use Rattle.run_sweep.specs.code.Asked.{Asked, VERTICES}
 use Rattle.sweep_model.specs.Fit.{Downward, Fit}
 use Rattle.sweep_model.specs.State.{Problem, functionOf, literalFunction}
-use Rattle.sweep_parts.specs.code.Ending.{Closed}
-use Rattle.sweep_parts.specs.code.Meet.{Workspace, workspace}
-use Rattle.sweep_parts.specs.code.Arrays.{arrays}
-use Rattle.sweep_parts.specs.code.Words.{posed}
-use Rattle.sweep_parts.specs.declared.end.Ended.{Ended}
-use Rattle.sweep_parts.specs.declared.task.Task.{Task}
+use Rattle.sweep_state.specs.code.Ending.{Closed}
+use Rattle.sweep_state.specs.code.Meet.{Workspace, workspace}
+use Rattle.sweep_state.specs.code.Arrays.{arrays}
+use Rattle.sweep_state.specs.code.Words.{posed}
+use Rattle.sweep_state.specs.declared.end.Ended.{Ended}
+use Rattle.sweep_state.specs.declared.task.Task.{Task}
 use Rattle.sweep_start.specs.code.Start.{HasFunctions, SweepAsked}
 use Rattle.table.proofs.FunctionLaws.{function-false, function-first, function-row, functions-perfect, length-functions}
 use Rattle.table.proofs.LayoutLaws.{length-pairs, pairs-at}

@@ -3,7 +3,7 @@ use crate::graph::VERTICES;
 use crate::graph::is_graph;
 use run_card_file::field;
 use run_card_file::number;
-use sweep_parts::task::Task;
+use sweep_state::task::Task;
 ghost use Prim.Native.Nat.{_*_, _≤_};
 ghost use Rattle.run_sweep.specs.code.Asked.{Asked, Between, Limited, Named, VERTICES, numberIn, taskIn};
 ghost use lib.ListN.{length};

@@ -10,7 +10,7 @@ use run_card_file::card;
 use run_card_file::card_count;
 use run_card_file::field;
 use run_card_file::number;
-use sweep_parts::task::Task;
+use sweep_state::task::Task;
 ghost use Rattle.run_sweep.specs.code.Asked.{Asked, VERTICES};
 ghost use lib.ListN.{length};
 ghost use mathlib.Core.Path.{_≡_};

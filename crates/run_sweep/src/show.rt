@@ -6,13 +6,13 @@ use sweep_graph::words::first_word;
 use sweep_graph::words::second_word;
 use sweep_model::Counts;
 use sweep_model::Reply;
-use sweep_parts::end::End;
-use sweep_parts::end::Ended;
-use sweep_parts::task::Task;
+use sweep_state::end::End;
+use sweep_state::end::Ended;
+use sweep_state::task::Task;
 ghost use Prim.Native.Nat.{_*_, _<_, _^_, _≤_};
 ghost use Rattle.bdd.specs.code.Store.{Store};
 ghost use Rattle.run_sweep.specs.code.Asked.{INPUTS};
-ghost use Rattle.sweep_parts.specs.code.Ending.{Refers};
+ghost use Rattle.sweep_state.specs.code.Ending.{Refers};
 ghost use lib.ListN.{length};
 ghost use mathlib.Core.Path.{_≡_};
 

@@ -2,14 +2,14 @@
 use Prim.Native.Nat.{ℕ}
 use Rattle.sweep_model.specs.Sweep.{Progress, andThen, cause, go, resultOf, sweep}
 use Rattle.sweep_model.specs.declared.Cause.{Cause}
-use Rattle.sweep_parts.specs.code.Cause.{causeBy}
-use Rattle.sweep_parts.specs.code.Ending.{verdictOf}
-use Rattle.sweep_parts.specs.code.Meet.{Workspace}
-use Rattle.sweep_parts.specs.code.Words.{posed}
-use Rattle.sweep_parts.specs.declared.end.End.the-variants.{Undecided}
-use Rattle.sweep_parts.specs.declared.end.End.{End}
-use Rattle.sweep_parts.specs.declared.end.Ended as result
-use Rattle.sweep_parts.specs.declared.task.Task.{Task}
+use Rattle.sweep_look.specs.code.Cause.{causeBy}
+use Rattle.sweep_state.specs.code.Ending.{verdictOf}
+use Rattle.sweep_state.specs.code.Meet.{Workspace}
+use Rattle.sweep_state.specs.code.Words.{posed}
+use Rattle.sweep_state.specs.declared.end.End.the-variants.{Undecided}
+use Rattle.sweep_state.specs.declared.end.End.{End}
+use Rattle.sweep_state.specs.declared.end.Ended as result
+use Rattle.sweep_state.specs.declared.task.Task.{Task}
 use Rattle.sweep_start.specs.code.Start.{Starts, SweepAsked}
 use Rattle.sweep_turn.proofs.EndModel.{represents-closed}
 use Rattle.sweep_turn.specs.code.Turn.{Goes, RestIn, firstContext}

@@ -1,15 +1,15 @@
 // The sweep's code on the working graph: it knows no table header and no file.
-use sweep_parts::cause::cause;
-use sweep_parts::end::End;
-use sweep_parts::end::Ended;
-use sweep_parts::task::Task;
+use sweep_look::cause::cause;
 use sweep_start::start::start;
+use sweep_state::end::End;
+use sweep_state::end::Ended;
+use sweep_state::task::Task;
 use sweep_turn::turn::go;
 use sweep_turn::visit::Going;
 ghost use Prim.Native.Nat.{_*_, _≤_};
-ghost use Rattle.sweep_parts.specs.code.Arrays.{arrays};
-ghost use Rattle.sweep_parts.specs.code.Meet.{workspace, workspaces};
 ghost use Rattle.sweep_start.specs.code.Start.{SweepAsked};
+ghost use Rattle.sweep_state.specs.code.Arrays.{arrays};
+ghost use Rattle.sweep_state.specs.code.Meet.{workspace, workspaces};
 ghost use Rattle.sweep_turn.specs.code.Turn.{RestIn};
 ghost use Rattle.sweep.specs.code.Sweep.{Rests, Sweeps};
 ghost use lib.ListN.{length};

@@ -1,8 +1,6 @@
-pub mod BeginLaws
 pub mod DrawnLaws
 pub mod GraphLaws
-mod NormaliseLaws
-pub mod PickLaws
+mod ResolveLaws
 pub mod StageLaws
 pub mod TakeLaws
 pub mod TakesModel

@@ -1,5 +1,3 @@
-pub mod Begin
 pub mod Graph
-pub mod Pick
 pub mod Stages
 pub mod Takes

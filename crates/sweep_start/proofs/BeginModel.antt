@@ -6,19 +6,19 @@ use Rattle.sweep_model.specs.State.{Problem, State, literalFunction}
 use Rattle.sweep_model.specs.code.Steady.{Scanning, Unsettled, haveNow?, leftNow, rightNow}
 use Rattle.sweep_model.specs.Sweep.{Progress, Verdict, andThen, different, ends, equal, giveInputs, look, lookAt, on, start, turnsLeft}
 use Rattle.sweep_model.specs.declared.Cause.the-variants.{Rows}
-use Rattle.sweep_parts.proofs.LookModel.{look-models, look-refers, looks}
-use Rattle.sweep_parts.specs.code.Ending.{Ends, verdictOf}
-use Rattle.sweep_parts.specs.code.Look.{Looks, SeenRefers, progressOf, seenBy}
-use Rattle.sweep_parts.specs.code.Meet.{Workspace, workspace}
-use Rattle.sweep_parts.specs.code.Represents.{Represents}
-use Rattle.sweep_parts.specs.code.Settle.{onWorkspace, stateOn}
-use Rattle.sweep_parts.specs.code.Arrays.{Arrays}
-use Rattle.sweep_parts.specs.code.Words.{posed}
-use Rattle.sweep_parts.specs.declared.end.End.the-variants.{Undecided}
-use Rattle.sweep_parts.specs.declared.end.End.{End}
-use Rattle.sweep_parts.specs.declared.look.Seen.the-variants.{Decided, Nothing}
-use Rattle.sweep_parts.specs.declared.look.Seen.{Seen}
-use Rattle.sweep_parts.specs.declared.task.Task.{Task}
+use Rattle.sweep_state.proofs.LookModel.{look-models, look-refers, looks}
+use Rattle.sweep_state.specs.code.Ending.{Ends, verdictOf}
+use Rattle.sweep_state.specs.code.Look.{Looks, SeenRefers, progressOf, seenBy}
+use Rattle.sweep_state.specs.code.Meet.{Workspace, workspace}
+use Rattle.sweep_state.specs.code.Represents.{Represents}
+use Rattle.sweep_state.specs.code.Settle.{onWorkspace, stateOn}
+use Rattle.sweep_state.specs.code.Arrays.{Arrays}
+use Rattle.sweep_state.specs.code.Words.{posed}
+use Rattle.sweep_state.specs.declared.end.End.the-variants.{Undecided}
+use Rattle.sweep_state.specs.declared.end.End.{End}
+use Rattle.sweep_state.specs.declared.end.Seen.the-variants.{Decided, Nothing}
+use Rattle.sweep_state.specs.declared.end.Seen.{Seen}
+use Rattle.sweep_state.specs.declared.task.Task.{Task}
 use Rattle.sweep_start.specs.code.Given.{AllGiven, GivenTo, GivesRows, HasInputContext, InputContext}
 use Rattle.sweep_start.specs.code.Start.{GivesInputs, GivingIn, GoneOn, HasFunctions, Prepared, Prepares, Starts, SweepAsked, inputsGiven}
 use Rattle.sweep_start.specs.declared.inputs.Inputs.the-variants.{All, Short}

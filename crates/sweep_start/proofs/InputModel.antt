@@ -14,13 +14,13 @@ use Rattle.sweep_model.specs.State.{functionOf, has?}
 use Rattle.sweep_model.specs.code.Steady.{Giving}
 use Rattle.sweep_model.specs.Sweep.{Progress, andThen, ends, giveInputs, giveRow, on, topPart, undecided}
 use Rattle.sweep_model.specs.declared.Cause.the-variants.{Rows}
-use Rattle.sweep_parts.proofs.DrawModel.{Draws, drawn-represents, drawn-state}
-use Rattle.sweep_parts.proofs.LookModel.{has-stage}
-use Rattle.sweep_parts.specs.code.Ending.{verdictOf}
-use Rattle.sweep_parts.specs.code.Represents.{Represents}
-use Rattle.sweep_parts.specs.code.Arrays.{Arrays}
-use Rattle.sweep_parts.specs.code.Words.{Words, posed, stateOf}
-use Rattle.sweep_parts.specs.declared.task.Task.{Task}
+use Rattle.sweep_state.proofs.DrawModel.{Draws, drawn-represents, drawn-state}
+use Rattle.sweep_state.proofs.LookModel.{has-stage}
+use Rattle.sweep_state.specs.code.Ending.{verdictOf}
+use Rattle.sweep_state.specs.code.Represents.{Represents}
+use Rattle.sweep_state.specs.code.Arrays.{Arrays}
+use Rattle.sweep_state.specs.code.Words.{Words, posed, stateOf}
+use Rattle.sweep_state.specs.declared.task.Task.{Task}
 use Rattle.sweep_start.specs.code.Given.{AllGiven, GivenTo, HasInputContext, InputContext, ShortAt, givingFrom, stateIn}
 use Rattle.sweep_start.specs.code.Inputs.{RowAsked, RowGiven, RowLacked, levelOf}
 use Rattle.sweep_turn.proofs.EndModel.{marked-closed, represents-closed}

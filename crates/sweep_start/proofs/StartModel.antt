@@ -6,9 +6,9 @@ use Rattle.bdd.proofs.DiagramLaws.{constant-reference, denote-constant}
 use Rattle.bdd.specs.Diagram.{storeOf}
 use Rattle.bdd_unique.specs.code.Unique.{Cleared}
 use Rattle.product.specs.Product.{bookOf}
-use Rattle.sweep_graph.proofs.BeginLaws.{begin-marks, begin-room, begin-stages, cleared-length, cleared-word}
+use Rattle.sweep_pick.proofs.BeginLaws.{begin-marks, begin-room, begin-stages, cleared-length, cleared-word}
 use Rattle.sweep_graph.proofs.GraphLaws.{graph-kept}
-use Rattle.sweep_graph.specs.code.Begin.{begun}
+use Rattle.sweep_pick.specs.code.Begin.{begun}
 use Rattle.sweep_graph.specs.code.Graph.{Graph}
 use Rattle.sweep_graph.specs.code.Stages.{stageWord, stagesOf, wordStage}
 use Rattle.sweep_graph.specs.code.Takes.{Held, TakesRoom, hasWord, held}
@@ -17,14 +17,14 @@ use Rattle.sweep_model.proofs.Steady.{begin-giving}
 use Rattle.sweep_model.specs.Normalise.{normalise, normaliseFrom}
 use Rattle.sweep_model.specs.State.{has?, opened}
 use Rattle.sweep_model.specs.Sweep.{begin}
-use Rattle.sweep_parts.proofs.HandLaws.{Handed}
-use Rattle.sweep_parts.proofs.NormaliseModel.{Normalises, normalised-represents, normalised-state, sound-graph}
-use Rattle.sweep_parts.specs.code.Meet.{Workspace, handedIn, workspace}
-use Rattle.sweep_parts.specs.code.Represents.{Drawing}
-use Rattle.sweep_parts.specs.code.Settle.{stateOn}
-use Rattle.sweep_parts.specs.code.Arrays.{arrays}
-use Rattle.sweep_parts.specs.code.Words.{posed}
-use Rattle.sweep_parts.specs.declared.task.Task.{Task}
+use Rattle.sweep_state.proofs.HandLaws.{Handed}
+use Rattle.sweep_state.proofs.NormaliseModel.{Normalises, normalised-represents, normalised-state, sound-graph}
+use Rattle.sweep_state.specs.code.Meet.{Workspace, handedIn, workspace}
+use Rattle.sweep_state.specs.code.Represents.{Drawing}
+use Rattle.sweep_state.specs.code.Settle.{stateOn}
+use Rattle.sweep_state.specs.code.Arrays.{arrays}
+use Rattle.sweep_state.specs.code.Words.{posed}
+use Rattle.sweep_state.specs.declared.task.Task.{Task}
 use Rattle.sweep_start.specs.code.Start.{HasFunctions, PreparedFrom, Prepares, SweepAsked}
 use Rattle.truth.proofs.Booleans.{clash}
 use Rattle.truth.proofs.Parts.{size-constant}

@@ -1,11 +1,11 @@
 // Each input gets its row.
-use bdd_unique::Made;
-use bdd_unique::make;
-use sweep_parts::draw::draw;
-use sweep_parts::task::Task;
-ghost use Rattle.sweep_parts.specs.code.Arrays.{arrays, arraysOf};
+use bdd::unique::Made;
+use bdd::unique::make;
+use sweep_draw::draw::draw;
+use sweep_state::task::Task;
 ghost use Rattle.sweep_start.specs.code.Given.{GivesRows, HasInputContext};
 ghost use Rattle.sweep_start.specs.code.Inputs.{Gives, RowAsked};
+ghost use Rattle.sweep_state.specs.code.Arrays.{arrays, arraysOf};
 
 // The rows then used, or no row is left.
 pub enum Given {

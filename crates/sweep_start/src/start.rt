@@ -1,19 +1,20 @@
 // The start of a sweep: up to the first turn.
 use crate::inputs::Inputs;
 use crate::inputs::give_rows;
-use bdd_unique::clear;
-use sweep_graph::begin::begin;
-use sweep_graph::normalise::normalise;
-use sweep_graph::take::takes;
+use bdd::unique::clear;
+use sweep_look::look::look;
 use sweep_model::Cause;
-use sweep_parts::end::End;
-use sweep_parts::look::Seen;
-use sweep_parts::task::Task;
+use sweep_normalise::normalise::normalise;
+use sweep_pick::begin::begin;
+use sweep_state::end::End;
+use sweep_state::end::Seen;
+use sweep_state::task::Task;
+use sweep_take::take::takes;
 use sweep_turn::visit::Going;
 use sweep_turn::visit::after_look;
-ghost use Rattle.sweep_parts.specs.code.Arrays.{arrays, arraysOf};
-ghost use Rattle.sweep_parts.specs.code.Meet.{workspace, workspaces};
 ghost use Rattle.sweep_start.specs.code.Start.{GivesInputs, GivingIn, Prepares, Starts, SweepAsked};
+ghost use Rattle.sweep_state.specs.code.Arrays.{arrays, arraysOf};
+ghost use Rattle.sweep_state.specs.code.Meet.{workspace, workspaces};
 
 // No row is used, no vertex but the constant has a diagram, all marks are 0; and the rows of the graph are normalised.
 fn prepare(

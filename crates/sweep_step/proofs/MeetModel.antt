@@ -16,20 +16,20 @@ use Rattle.sweep_model.specs.code.Reachable.{Reachable}
 use Rattle.sweep_model.specs.State.{Problem, State, functionOf, withBook, withRows}
 use Rattle.sweep_model.specs.code.Steady.{Due, productOf}
 use Rattle.sweep_model.specs.Sweep.{at, meet, none, swept, twinFrom}
-use Rattle.sweep_parts.proofs.DrawModel.{Draws, all-owners, carried, drawn-represents, drawn-state, other-first, other-second, other-stage, own, own-first, own-second}
-use Rattle.sweep_parts.proofs.HandLaws.{Handed}
-use Rattle.sweep_parts.proofs.LookModel.{has-stage}
-use Rattle.sweep_parts.proofs.MeetLaws.{drawn-room, meet-asks, merge-graph}
-use Rattle.sweep_parts.proofs.NormaliseModel.{Normalises, normalised-represents, normalised-state, sound-graph}
-use Rattle.sweep_parts.proofs.TwinModel.{answered, twin-asked, twin-found, twin-models}
-use Rattle.sweep_parts.specs.code.Meet.{MeetAsked, MergeAsked, heldOf, inverse?, joined, mergedWorkspace, metWith, metWorkspace, twinAt, workspace}
-use Rattle.sweep_parts.specs.code.Represents.{Drawing, Represents}
-use Rattle.sweep_parts.specs.code.Settle.{onWorkspace, workspaceOf}
-use Rattle.sweep_parts.specs.code.Arrays.{Arrays, arrays, drawnAt}
-use Rattle.sweep_parts.specs.code.Words.{Words, posed, stateOf}
-use Rattle.sweep_parts.specs.declared.task.Task.{Task}
-use Rattle.sweep_parts.specs.declared.twin.Twin.the-variants.{At, None}
-use Rattle.sweep_parts.specs.declared.twin.Twin.{Twin}
+use Rattle.sweep_state.proofs.DrawModel.{Draws, all-owners, carried, drawn-represents, drawn-state, other-first, other-second, other-stage, own, own-first, own-second}
+use Rattle.sweep_state.proofs.HandLaws.{Handed}
+use Rattle.sweep_state.proofs.LookModel.{has-stage}
+use Rattle.sweep_merge.proofs.MeetLaws.{drawn-room, meet-asks, merge-graph}
+use Rattle.sweep_state.proofs.NormaliseModel.{Normalises, normalised-represents, normalised-state, sound-graph}
+use Rattle.sweep_state.proofs.TwinModel.{answered, twin-asked, twin-found, twin-models}
+use Rattle.sweep_state.specs.code.Meet.{MeetAsked, MergeAsked, heldOf, inverse?, joined, mergedWorkspace, metWith, metWorkspace, twinAt, workspace}
+use Rattle.sweep_state.specs.code.Represents.{Drawing, Represents}
+use Rattle.sweep_state.specs.code.Settle.{onWorkspace, workspaceOf}
+use Rattle.sweep_state.specs.code.Arrays.{Arrays, arrays, drawnAt}
+use Rattle.sweep_state.specs.code.Words.{Words, posed, stateOf}
+use Rattle.sweep_state.specs.declared.task.Task.{Task}
+use Rattle.sweep_state.specs.declared.twin.Twin.the-variants.{At, None}
+use Rattle.sweep_state.specs.declared.twin.Twin.{Twin}
 use Rattle.truth.proofs.Booleans.{iff-equal}
 use Rattle.truth.proofs.Equality.{equal-same, same-equal}
 use Rattle.truth.specs.Parts.{size}

@@ -15,18 +15,18 @@ use Rattle.sweep_model.specs.code.Steady.{productOf}
 use Rattle.sweep_model.specs.Sweep.{conclude, dropVertex, ends, givenBack, look, meet, multiply, twinFrom, undecided}
 use Rattle.sweep_model.specs.declared.Cause.the-variants.{Rows, Steps}
 use Rattle.sweep_model.specs.declared.Cause.{Cause}
-use Rattle.sweep_parts.proofs.DropModel.{Returns, broken-closed, broken-state, due-inside}
-use Rattle.sweep_parts.proofs.LookModel.{LiteralDrawn, has-stage, literal-drawn, look-models, look-refers}
-use Rattle.sweep_parts.specs.code.Ending.{Ends, verdictOf}
-use Rattle.sweep_parts.specs.code.Look.{SeenRefers, progressOf, seenBy}
-use Rattle.sweep_parts.specs.code.Meet.{Workspace, workspace}
-use Rattle.sweep_parts.specs.code.Operands.{ProductAsked, firstOperand, secondOperand}
-use Rattle.sweep_parts.specs.code.Settle.{BeforeProduct, Ended, Settled, onWorkspace, settledState, stateBefore, stateOn, workspaceBefore}
-use Rattle.sweep_parts.specs.code.Arrays.{arrays}
-use Rattle.sweep_parts.specs.code.Words.{posed}
-use Rattle.sweep_parts.specs.declared.end.End.the-variants.{Undecided}
-use Rattle.sweep_parts.specs.declared.look.Seen.{Seen}
-use Rattle.sweep_parts.specs.declared.task.Task.{Task}
+use Rattle.sweep_state.proofs.DropModel.{Returns, broken-closed, broken-state, due-inside}
+use Rattle.sweep_state.proofs.LookModel.{LiteralDrawn, has-stage, literal-drawn, look-models, look-refers}
+use Rattle.sweep_state.specs.code.Ending.{Ends, verdictOf}
+use Rattle.sweep_state.specs.code.Look.{SeenRefers, progressOf, seenBy}
+use Rattle.sweep_state.specs.code.Meet.{Workspace, workspace}
+use Rattle.sweep_draw.specs.code.Operands.{ProductAsked, firstOperand, secondOperand}
+use Rattle.sweep_state.specs.code.Settle.{BeforeProduct, Ended, Settled, onWorkspace, settledState, stateBefore, stateOn, workspaceBefore}
+use Rattle.sweep_state.specs.code.Arrays.{arrays}
+use Rattle.sweep_state.specs.code.Words.{posed}
+use Rattle.sweep_state.specs.declared.end.End.the-variants.{Undecided}
+use Rattle.sweep_state.specs.declared.end.Seen.{Seen}
+use Rattle.sweep_state.specs.declared.task.Task.{Task}
 use Rattle.sweep_step.specs.code.Multiply.{Concludes, Context, DueOn, Looked, Takes, multiplied, sceneOf}
 use Rattle.sweep_step.specs.declared.multiply.Step.the-variants as step
 use Rattle.sweep_step.specs.declared.multiply.Step.{Step}

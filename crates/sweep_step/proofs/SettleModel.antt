@@ -5,13 +5,13 @@ use Rattle.bdd_size.specs.code.Marks.{Sized}
 use Rattle.bdd_unique.specs.code.Unique.{GivenBack}
 use Rattle.sweep_graph.specs.code.Stages.{withStage}
 use Rattle.sweep_model.specs.State.{functionOf}
-use Rattle.sweep_parts.proofs.DrawModel.{Draws}
-use Rattle.sweep_parts.proofs.DropModel.{Returns, dropped-represents, dropped-state, due-inside, due-lacks}
-use Rattle.sweep_parts.specs.code.Meet.{MeetAsked, Workspace, metWorkspace, workspace}
-use Rattle.sweep_parts.specs.code.Settle.{BeforeProduct, Ended, Settled, wordsBefore}
-use Rattle.sweep_parts.specs.code.Arrays.{arrays}
-use Rattle.sweep_parts.specs.code.Words.{posed}
-use Rattle.sweep_parts.specs.declared.task.Task.{Task}
+use Rattle.sweep_state.proofs.DrawModel.{Draws}
+use Rattle.sweep_state.proofs.DropModel.{Returns, dropped-represents, dropped-state, due-inside, due-lacks}
+use Rattle.sweep_state.specs.code.Meet.{MeetAsked, Workspace, metWorkspace, workspace}
+use Rattle.sweep_state.specs.code.Settle.{BeforeProduct, Ended, Settled, wordsBefore}
+use Rattle.sweep_state.specs.code.Arrays.{arrays}
+use Rattle.sweep_state.specs.code.Words.{posed}
+use Rattle.sweep_state.specs.declared.task.Task.{Task}
 use Rattle.sweep_step.proofs.MeetModel.{meet-asked, met-represents, met-state}
 use Rattle.truth.specs.Parts.{size}
 use borrow.Author.Tests.{le-ltb, lt-ltb}

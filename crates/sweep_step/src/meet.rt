@@ -1,11 +1,11 @@
 // A product within the size limit.
-use sweep_parts::draw::draw;
-use sweep_parts::merge::merge;
-use sweep_parts::task::Task;
-use sweep_parts::twin::Twin;
-use sweep_parts::twin::find_twin;
-ghost use Rattle.sweep_parts.specs.code.Arrays.{arrays};
-ghost use Rattle.sweep_parts.specs.code.Meet.{MeetAsked, metWorkspace, workspace, workspaces};
+use sweep_draw::draw::draw;
+use sweep_merge::merge::merge;
+use sweep_merge::twin::find_twin;
+use sweep_state::task::Task;
+use sweep_state::twin::Twin;
+ghost use Rattle.sweep_state.specs.code.Arrays.{arrays};
+ghost use Rattle.sweep_state.specs.code.Meet.{MeetAsked, metWorkspace, workspace, workspaces};
 ghost use mathlib.Core.Path.{_≡_};
 
 // Vertex v gets its diagram; where another vertex has its function or the inverse, the two merge.

@@ -1,14 +1,15 @@
 // A vertex has its product taken.
 use crate::settle::settle;
 use product::Product;
-use sweep_parts::drop::break_off;
-use sweep_parts::look::Seen;
-use sweep_parts::operands::take_product;
-use sweep_parts::task::Task;
+use sweep_draw::drop::break_off;
+use sweep_draw::operands::take_product;
+use sweep_look::look::look;
+use sweep_state::end::Seen;
+use sweep_state::task::Task;
 ghost use Prim.Native.Nat.{_*_, _≤_};
-ghost use Rattle.sweep_parts.specs.code.Arrays.{arrays};
-ghost use Rattle.sweep_parts.specs.code.Meet.{workspace, workspaces};
-ghost use Rattle.sweep_parts.specs.code.Settle.{EndedIn};
+ghost use Rattle.sweep_state.specs.code.Arrays.{arrays};
+ghost use Rattle.sweep_state.specs.code.Meet.{workspace, workspaces};
+ghost use Rattle.sweep_state.specs.code.Settle.{EndedIn};
 ghost use Rattle.sweep_step.specs.code.Multiply.{Concludes, DueIn, Takes};
 ghost use lib.ListN.{length};
 

@@ -1,12 +1,12 @@
 // A product that is done.
 use crate::meet::meet;
-use bdd_size::size;
-use sweep_parts::drop::drop_vertex;
-use sweep_parts::task::Task;
+use bdd::size::size;
+use sweep_draw::drop::drop_vertex;
+use sweep_state::task::Task;
 ghost use Prim.Native.Nat.{_*_, _≤_};
-ghost use Rattle.sweep_parts.specs.code.Arrays.{arrays};
-ghost use Rattle.sweep_parts.specs.code.Meet.{workspace, workspaces};
-ghost use Rattle.sweep_parts.specs.code.Settle.{EndedIn, Settles};
+ghost use Rattle.sweep_state.specs.code.Arrays.{arrays};
+ghost use Rattle.sweep_state.specs.code.Meet.{workspace, workspaces};
+ghost use Rattle.sweep_state.specs.code.Settle.{EndedIn, Settles};
 ghost use lib.ListN.{length};
 
 // Vertex v, whose product has a reference, is dropped where it is too large, and else met. Gives the rows then used.

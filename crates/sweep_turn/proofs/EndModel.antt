@@ -2,16 +2,16 @@
 use Prim.Native.Nat.{ℕ}
 use Rattle.sweep_model.specs.State.{State}
 use Rattle.sweep_model.specs.Sweep.{Progress, ends}
-use Rattle.sweep_parts.specs.code.Ending.{Closed, Ends, Refers, verdictOf}
-use Rattle.sweep_parts.specs.code.Look.{SeenRefers, progressOf}
-use Rattle.sweep_parts.specs.code.Meet.{Workspace, workspace}
-use Rattle.sweep_parts.specs.code.Represents.{Represents}
-use Rattle.sweep_parts.specs.code.Settle.{onWorkspace, stateOn}
-use Rattle.sweep_parts.specs.code.Arrays.{arrays}
-use Rattle.sweep_parts.specs.declared.end.End.{End}
-use Rattle.sweep_parts.specs.declared.look.Seen.the-variants.{Decided, Nothing}
-use Rattle.sweep_parts.specs.declared.look.Seen.{Seen}
-use Rattle.sweep_parts.specs.declared.task.Task.{Task}
+use Rattle.sweep_state.specs.code.Ending.{Closed, Ends, Refers, verdictOf}
+use Rattle.sweep_state.specs.code.Look.{SeenRefers, progressOf}
+use Rattle.sweep_state.specs.code.Meet.{Workspace, workspace}
+use Rattle.sweep_state.specs.code.Represents.{Represents}
+use Rattle.sweep_state.specs.code.Settle.{onWorkspace, stateOn}
+use Rattle.sweep_state.specs.code.Arrays.{arrays}
+use Rattle.sweep_state.specs.declared.end.End.{End}
+use Rattle.sweep_state.specs.declared.end.Seen.the-variants.{Decided, Nothing}
+use Rattle.sweep_state.specs.declared.end.Seen.{Seen}
+use Rattle.sweep_state.specs.declared.task.Task.{Task}
 use Rattle.sweep_turn.specs.code.Visit.{goingBy}
 use Rattle.sweep_turn.specs.declared.visit.Going.the-variants.{Ended, On}
 use Rattle.sweep_turn.specs.declared.visit.Going.{Going}

@@ -1,21 +1,21 @@
 -- The loop of turns: what follows is what followed at first.
 use Prim.Native.Nat.{_*_, _<_, _≤_, suc, ℕ}
-use Rattle.sweep_graph.proofs.PickLaws.{Least, Sized, least-is, pick-models}
+use Rattle.sweep_pick.proofs.PickLaws.{Least, Sized, least-is, pick-models}
 use Rattle.sweep_graph.proofs.StageLaws.{stage-at}
-use Rattle.sweep_graph.specs.code.Pick.{leastFrom, twinOf}
-use Rattle.sweep_graph.specs.declared.pick.Picked.the-variants.{At, None}
-use Rattle.sweep_graph.specs.declared.pick.Picked.{Picked}
+use Rattle.sweep_pick.specs.code.Pick.{leastFrom, twinOf}
+use Rattle.sweep_pick.specs.declared.pick.Picked.the-variants.{At, None}
+use Rattle.sweep_pick.specs.declared.pick.Picked.{Picked}
 use Rattle.sweep_model.proofs.Bound.{go-enough, go-stops, go-turns, open-turns, scanning-budget}
 use Rattle.sweep_model.proofs.Stages.{waits-has}
 use Rattle.sweep_model.proofs.Steady.{openedAt}
 use Rattle.sweep_model.specs.State.{stageOf, waits?}
 use Rattle.sweep_model.specs.code.Steady.{Scanning}
 use Rattle.sweep_model.specs.Sweep.{Progress, andThen, go, goFor, pickFrom, turnsLeft}
-use Rattle.sweep_parts.specs.code.Meet.{Workspace}
-use Rattle.sweep_parts.specs.code.Settle.{stateOn}
-use Rattle.sweep_parts.specs.code.Words.{posed}
-use Rattle.sweep_parts.specs.declared.end.End.{End}
-use Rattle.sweep_parts.specs.declared.task.Task.{Task}
+use Rattle.sweep_state.specs.code.Meet.{Workspace}
+use Rattle.sweep_state.specs.code.Settle.{stateOn}
+use Rattle.sweep_state.specs.code.Words.{posed}
+use Rattle.sweep_state.specs.declared.end.End.{End}
+use Rattle.sweep_state.specs.declared.task.Task.{Task}
 use Rattle.sweep_step.specs.code.Multiply.{Context}
 use Rattle.sweep_turn.proofs.ScanModel.{SameLengths, lengths-then}
 use Rattle.sweep_turn.specs.code.Turn.{Goes, OpenIn, OpenOn, Opens, RestIn, RestOn, firstContext, gone, openedBy}

@@ -7,10 +7,10 @@ use Rattle.sweep_model.proofs.Reachable.{opened-reachable}
 use Rattle.sweep_model.proofs.Stages.{waits-has}
 use Rattle.sweep_model.proofs.Steady.{openedAt}
 use Rattle.sweep_model.specs.State.{has?, stageOf, waits?}
-use Rattle.sweep_parts.proofs.LookModel.{has-stage}
-use Rattle.sweep_parts.specs.code.Represents.{Represents}
-use Rattle.sweep_parts.specs.code.Words.{Words, stateOf, words}
-use Rattle.sweep_parts.specs.declared.task.Task.{Task}
+use Rattle.sweep_state.proofs.LookModel.{has-stage}
+use Rattle.sweep_state.specs.code.Represents.{Represents}
+use Rattle.sweep_state.specs.code.Words.{Words, stateOf, words}
+use Rattle.sweep_state.specs.declared.task.Task.{Task}
 use Rattle.truth.specs.Truth.{Truth}
 use lib.ListN.{length-set}
 use lib.Seq.{getD-set-other, getD-set-same}

@@ -1,10 +1,10 @@
 -- The loop of a scan: what follows is what followed from its first vertex.
 use Prim.Native.Nat.{_+_, _-_, _<_, _≤_, suc, ℕ}
 use Rattle.sweep_model.specs.Sweep.{Progress, andThen, scanFrom}
-use Rattle.sweep_parts.specs.code.Meet.{Workspace}
-use Rattle.sweep_parts.specs.code.Words.{posed}
-use Rattle.sweep_parts.specs.declared.end.End.{End}
-use Rattle.sweep_parts.specs.declared.task.Task.{Task}
+use Rattle.sweep_state.specs.code.Meet.{Workspace}
+use Rattle.sweep_state.specs.code.Words.{posed}
+use Rattle.sweep_state.specs.declared.end.End.{End}
+use Rattle.sweep_state.specs.declared.task.Task.{Task}
 use Rattle.sweep_step.specs.code.Multiply.{Context}
 use Rattle.sweep_turn.specs.code.Scan.{Scans, scannedFrom}
 use Rattle.sweep_turn.specs.code.Visit.{ScanIn, ScanOn, Visits, visited}

@@ -6,11 +6,11 @@ use Rattle.sweep_model.proofs.Steady.{openedAt, scanning-opened}
 use Rattle.sweep_model.specs.State.{State}
 use Rattle.sweep_model.specs.code.Steady.{Scanning}
 use Rattle.sweep_model.specs.Sweep.{openAt, scanFrom}
-use Rattle.sweep_parts.specs.code.Meet.{Workspace, workspace}
-use Rattle.sweep_parts.specs.code.Settle.{stateOn}
-use Rattle.sweep_parts.specs.code.Arrays.{arrays}
-use Rattle.sweep_parts.specs.code.Words.{posed}
-use Rattle.sweep_parts.specs.declared.task.Task.{Task}
+use Rattle.sweep_state.specs.code.Meet.{Workspace, workspace}
+use Rattle.sweep_state.specs.code.Settle.{stateOn}
+use Rattle.sweep_state.specs.code.Arrays.{arrays}
+use Rattle.sweep_state.specs.code.Words.{posed}
+use Rattle.sweep_state.specs.declared.task.Task.{Task}
 use Rattle.sweep_step.specs.code.Multiply.{Context}
 use Rattle.sweep_turn.proofs.OpenModel.{opened-represents, opened-state}
 use Rattle.sweep_turn.specs.code.Scan.{Scans, scannedFrom}

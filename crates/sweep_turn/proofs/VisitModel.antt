@@ -12,16 +12,16 @@ use Rattle.sweep_model.specs.State.{Problem, State, bare?, open?, stageOf}
 use Rattle.sweep_model.specs.code.Steady.{Scanning, Steady}
 use Rattle.sweep_model.specs.Sweep.{on, ready?, visit}
 use Rattle.sweep_model.specs.declared.Cause.the-variants.{Rows, Steps}
-use Rattle.sweep_parts.specs.code.Ending.{Ends}
-use Rattle.sweep_parts.specs.code.Look.{progressOf}
-use Rattle.sweep_parts.specs.code.Meet.{Workspace}
-use Rattle.sweep_parts.specs.code.Settle.{stateOn}
-use Rattle.sweep_parts.specs.code.Words.{posed}
-use Rattle.sweep_parts.specs.declared.end.End.the-variants.{Undecided}
-use Rattle.sweep_parts.specs.declared.end.End.{End}
-use Rattle.sweep_parts.specs.declared.look.Seen.the-variants.{Decided, Nothing}
-use Rattle.sweep_parts.specs.declared.look.Seen.{Seen}
-use Rattle.sweep_parts.specs.declared.task.Task.{Task}
+use Rattle.sweep_state.specs.code.Ending.{Ends}
+use Rattle.sweep_state.specs.code.Look.{progressOf}
+use Rattle.sweep_state.specs.code.Meet.{Workspace}
+use Rattle.sweep_state.specs.code.Settle.{stateOn}
+use Rattle.sweep_state.specs.code.Words.{posed}
+use Rattle.sweep_state.specs.declared.end.End.the-variants.{Undecided}
+use Rattle.sweep_state.specs.declared.end.End.{End}
+use Rattle.sweep_state.specs.declared.end.Seen.the-variants.{Decided, Nothing}
+use Rattle.sweep_state.specs.declared.end.Seen.{Seen}
+use Rattle.sweep_state.specs.declared.task.Task.{Task}
 use Rattle.sweep_step.specs.code.Multiply.{Context, DueOn, Looked, Takes, multiplied}
 use Rattle.sweep_step.specs.declared.multiply.Step.the-variants as step
 use Rattle.sweep_step.specs.declared.multiply.Step.{Step}

@@ -1,10 +1,10 @@
 // A scan: every vertex from one on is visited, upwards.
 use crate::visit::Going;
 use crate::visit::visit;
-use sweep_parts::task::Task;
+use sweep_state::task::Task;
 ghost use Prim.Native.Nat.{_*_, _≤_};
-ghost use Rattle.sweep_parts.specs.code.Arrays.{arrays};
-ghost use Rattle.sweep_parts.specs.code.Meet.{workspace, workspaces};
+ghost use Rattle.sweep_state.specs.code.Arrays.{arrays};
+ghost use Rattle.sweep_state.specs.code.Meet.{workspace, workspaces};
 ghost use Rattle.sweep_turn.specs.code.Scan.{Scans};
 ghost use Rattle.sweep_turn.specs.code.Visit.{ScanIn};
 ghost use lib.ListN.{length};

@@ -1,14 +1,14 @@
 // Turns: the waiting vertex of least size opens, and a scan follows.
 use crate::scan::scan;
 use crate::visit::Going;
-use sweep_graph::pick::Picked;
-use sweep_graph::pick::pick;
 use sweep_graph::stage::OPENED;
 use sweep_graph::stage::set_stage;
-use sweep_parts::task::Task;
+use sweep_pick::pick::Picked;
+use sweep_pick::pick::pick;
+use sweep_state::task::Task;
 ghost use Prim.Native.Nat.{_*_, _≤_};
-ghost use Rattle.sweep_parts.specs.code.Arrays.{arrays};
-ghost use Rattle.sweep_parts.specs.code.Meet.{workspace, workspaces};
+ghost use Rattle.sweep_state.specs.code.Arrays.{arrays};
+ghost use Rattle.sweep_state.specs.code.Meet.{workspace, workspaces};
 ghost use Rattle.sweep_turn.specs.code.Turn.{Goes, OpenIn, Opens, RestIn};
 ghost use lib.ListN.{length};
 

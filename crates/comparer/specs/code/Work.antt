@@ -4,10 +4,10 @@ use Rattle.bdd.specs.code.Store.{Store}
 use Rattle.compare_model.specs.Compare.{Given, answerTo, limitsOf, maxRows, maxSteps, overFront, problemOf}
 use Rattle.compare_model.specs.declared.Limits.{Limits as Asked}
 use Rattle.comparer.specs.Lent.{Slices, given}
-use Rattle.sweep_parts.specs.code.Ending.{Refers, verdictOf}
-use Rattle.sweep_parts.specs.code.Words.{posed}
-use Rattle.sweep_parts.specs.declared.end.Ended.{Ended}
-use Rattle.sweep_parts.specs.declared.task.Task.{Task}
+use Rattle.sweep_state.specs.code.Ending.{Refers, verdictOf}
+use Rattle.sweep_state.specs.code.Words.{posed}
+use Rattle.sweep_state.specs.declared.end.Ended.{Ended}
+use Rattle.sweep_state.specs.declared.task.Task.{Task}
 use Rattle.table.specs.Accepted.{Accepted}
 use Rattle.table.specs.Table.{functionsOf, graphOf, inputsOf, verticesOf}
 use denote.Triple.Both.{Both}

@@ -3,8 +3,8 @@
 use Rattle.run_sweep.proofs.AskedLaws.{asked, closed}
 use Rattle.run_sweep.proofs.show_sweep.Statement.{statement}
 use Rattle.run_sweep.proofs.show_sweep.Tie as tie
-use Rattle.sweep_parts.specs.code.Meet.{Workspace, workspace}
-use Rattle.sweep_parts.specs.code.Arrays.{arrays}
+use Rattle.sweep_state.specs.code.Meet.{Workspace, workspace}
+use Rattle.sweep_state.specs.code.Arrays.{arrays}
 use borrow.Author.Needs.{needs}
 use native.Mathlib.Omega.{arith}
 

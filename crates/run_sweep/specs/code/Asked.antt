@@ -4,7 +4,7 @@ use Rattle.aig.specs.Lookup.{HoldsRow, firstWord, secondWord}
 use Rattle.bdd.specs.code.Rows.{LIMIT}
 use Rattle.run_card_file.specs.CardFile.{partOf, valueOf}
 use Rattle.sweep_model.specs.Fit.{Downward}
-use Rattle.sweep_parts.specs.declared.task.Task.{Task}
+use Rattle.sweep_state.specs.declared.task.Task.{Task}
 use mathlib.Core.List.{List}
 use mathlib.Core.Path.{_≡_}
 

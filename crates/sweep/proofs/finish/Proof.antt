@@ -1,7 +1,7 @@
 -- The turns, and at rest the cause; no loop.
 -- One law for each way that the turns come out.
-use Rattle.sweep_parts.specs.code.Meet.{workspace}
-use Rattle.sweep_parts.specs.code.Arrays.{arrays}
+use Rattle.sweep_state.specs.code.Meet.{workspace}
+use Rattle.sweep_state.specs.code.Arrays.{arrays}
 use Rattle.sweep.proofs.SweepModel.{rest-answers, turn-answers}
 use Rattle.sweep.proofs.finish.Statement.{statement}
 use Rattle.sweep.proofs.finish.Tie as tie

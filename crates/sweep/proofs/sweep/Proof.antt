@@ -1,7 +1,7 @@
 -- The start, and what follows it; no loop.
 -- One law for each way that the start comes out.
-use Rattle.sweep_parts.specs.code.Meet.{workspace}
-use Rattle.sweep_parts.specs.code.Arrays.{arrays}
+use Rattle.sweep_state.specs.code.Meet.{workspace}
+use Rattle.sweep_state.specs.code.Arrays.{arrays}
 use Rattle.sweep.proofs.SweepModel.{start-answers, start-rests, sweep-goes-on}
 use Rattle.sweep.proofs.sweep.Statement.{statement}
 use Rattle.sweep.proofs.sweep.Tie as tie

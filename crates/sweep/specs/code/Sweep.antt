@@ -1,12 +1,12 @@
 -- The whole sweep, as in the model.
 use Prim.Native.Nat.{ℕ}
 use Rattle.sweep_model.specs.Sweep.{Result, resultOf, sweep}
-use Rattle.sweep_parts.specs.code.Ending.{Closed, verdictOf}
-use Rattle.sweep_parts.specs.code.Meet.{Workspace}
-use Rattle.sweep_parts.specs.code.Settle.{stateOn}
-use Rattle.sweep_parts.specs.code.Words.{posed}
-use Rattle.sweep_parts.specs.declared.end.Ended.{Ended}
-use Rattle.sweep_parts.specs.declared.task.Task.{Task}
+use Rattle.sweep_state.specs.code.Ending.{Closed, verdictOf}
+use Rattle.sweep_state.specs.code.Meet.{Workspace}
+use Rattle.sweep_state.specs.code.Settle.{stateOn}
+use Rattle.sweep_state.specs.code.Words.{posed}
+use Rattle.sweep_state.specs.declared.end.Ended.{Ended}
+use Rattle.sweep_state.specs.declared.task.Task.{Task}
 use Rattle.sweep_start.specs.code.Start.{HasFunctions}
 use Rattle.sweep_step.specs.code.Multiply.{Context}
 use Rattle.sweep_turn.specs.code.Turn.{RestOn, gone}

@@ -4,13 +4,13 @@ use Rattle.sweep_model.specs.State.{State}
 use Rattle.sweep_model.specs.code.Steady.{Giving}
 use Rattle.sweep_model.specs.Sweep.{Progress, giveInputs, on}
 use Rattle.sweep_model.specs.declared.Cause.the-variants.{Rows}
-use Rattle.sweep_parts.specs.code.Ending.{Ends}
-use Rattle.sweep_parts.specs.code.Meet.{workspace}
-use Rattle.sweep_parts.specs.code.Represents.{Represents}
-use Rattle.sweep_parts.specs.code.Arrays.{Arrays}
-use Rattle.sweep_parts.specs.code.Words.{Words, posed, stateOf, words}
-use Rattle.sweep_parts.specs.declared.end.End.the-variants.{Undecided}
-use Rattle.sweep_parts.specs.declared.task.Task.{Task}
+use Rattle.sweep_state.specs.code.Ending.{Ends}
+use Rattle.sweep_state.specs.code.Meet.{workspace}
+use Rattle.sweep_state.specs.code.Represents.{Represents}
+use Rattle.sweep_state.specs.code.Arrays.{Arrays}
+use Rattle.sweep_state.specs.code.Words.{Words, posed, stateOf, words}
+use Rattle.sweep_state.specs.declared.end.End.the-variants.{Undecided}
+use Rattle.sweep_state.specs.declared.task.Task.{Task}
 use Rattle.sweep_start.specs.declared.inputs.Inputs.the-variants.{All, Short}
 use Rattle.sweep_start.specs.declared.inputs.Inputs.{Inputs}
 use Rattle.truth.specs.Truth.{Truth}

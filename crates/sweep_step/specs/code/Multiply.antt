@@ -3,15 +3,15 @@ use Prim.Native.Nat.{ℕ}
 use Rattle.sweep_model.specs.code.Steady.{Due}
 use Rattle.sweep_model.specs.Sweep.{Progress, multiply}
 use Rattle.sweep_model.specs.declared.Cause.the-variants.{Rows, Steps}
-use Rattle.sweep_parts.specs.code.Ending.{Ends}
-use Rattle.sweep_parts.specs.code.Look.{SeenRefers, progressOf}
-use Rattle.sweep_parts.specs.code.Meet.{Workspace}
-use Rattle.sweep_parts.specs.code.Represents.{Represents}
-use Rattle.sweep_parts.specs.code.Settle.{BeforeProduct, Ended, onWorkspace, stateOn, workspaceBefore}
-use Rattle.sweep_parts.specs.code.Words.{posed}
-use Rattle.sweep_parts.specs.declared.end.End.the-variants.{Undecided}
-use Rattle.sweep_parts.specs.declared.look.Seen.{Seen}
-use Rattle.sweep_parts.specs.declared.task.Task.{Task}
+use Rattle.sweep_state.specs.code.Ending.{Ends}
+use Rattle.sweep_state.specs.code.Look.{SeenRefers, progressOf}
+use Rattle.sweep_state.specs.code.Meet.{Workspace}
+use Rattle.sweep_state.specs.code.Represents.{Represents}
+use Rattle.sweep_state.specs.code.Settle.{BeforeProduct, Ended, onWorkspace, stateOn, workspaceBefore}
+use Rattle.sweep_state.specs.code.Words.{posed}
+use Rattle.sweep_state.specs.declared.end.End.the-variants.{Undecided}
+use Rattle.sweep_state.specs.declared.end.Seen.{Seen}
+use Rattle.sweep_state.specs.declared.task.Task.{Task}
 use Rattle.sweep_step.specs.declared.multiply.Step.the-variants as step
 use Rattle.sweep_step.specs.declared.multiply.Step.{Step}
 use Rattle.truth.specs.Truth.{Truth}

@@ -1,11 +1,11 @@
 -- A scan, as in the model.
 use Prim.Native.Nat.{_-_, ℕ}
 use Rattle.sweep_model.specs.Sweep.{Progress, on, scanFrom}
-use Rattle.sweep_parts.specs.code.Ending.{Ends}
-use Rattle.sweep_parts.specs.code.Meet.{Workspace}
-use Rattle.sweep_parts.specs.code.Settle.{stateOn}
-use Rattle.sweep_parts.specs.code.Words.{posed}
-use Rattle.sweep_parts.specs.declared.task.Task.{Task}
+use Rattle.sweep_state.specs.code.Ending.{Ends}
+use Rattle.sweep_state.specs.code.Meet.{Workspace}
+use Rattle.sweep_state.specs.code.Settle.{stateOn}
+use Rattle.sweep_state.specs.code.Words.{posed}
+use Rattle.sweep_state.specs.declared.task.Task.{Task}
 use Rattle.sweep_step.specs.code.Multiply.{Context}
 use Rattle.sweep_turn.specs.code.Visit.{ScanOn}
 use Rattle.sweep_turn.specs.declared.visit.Going.the-variants.{Ended, On}

@@ -2,12 +2,12 @@
 use Prim.Native.Nat.{_<_, suc, ℕ}
 use Rattle.sweep_model.specs.State.{stageOf, waits?}
 use Rattle.sweep_model.specs.Sweep.{Progress, goFor, on, openAt, turnsLeft}
-use Rattle.sweep_parts.specs.code.Ending.{Ends}
-use Rattle.sweep_parts.specs.code.Meet.{Workspace}
-use Rattle.sweep_parts.specs.code.Represents.{Represents}
-use Rattle.sweep_parts.specs.code.Settle.{onWorkspace, stateOn}
-use Rattle.sweep_parts.specs.code.Words.{posed}
-use Rattle.sweep_parts.specs.declared.task.Task.{Task}
+use Rattle.sweep_state.specs.code.Ending.{Ends}
+use Rattle.sweep_state.specs.code.Meet.{Workspace}
+use Rattle.sweep_state.specs.code.Represents.{Represents}
+use Rattle.sweep_state.specs.code.Settle.{onWorkspace, stateOn}
+use Rattle.sweep_state.specs.code.Words.{posed}
+use Rattle.sweep_state.specs.declared.task.Task.{Task}
 use Rattle.sweep_step.specs.code.Multiply.{Context}
 use Rattle.sweep_turn.specs.code.Visit.{ScanOn}
 use Rattle.sweep_turn.specs.declared.visit.Going.the-variants.{Ended, On}

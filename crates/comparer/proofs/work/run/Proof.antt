@@ -4,8 +4,8 @@ use Prim.Native.Nat.{_*_}
 use Rattle.comparer.proofs.RunLaws.{asked, lent-long, ran}
 use Rattle.comparer.proofs.work.run.Statement.{statement}
 use Rattle.comparer.proofs.work.run.Tie as tie
-use Rattle.sweep_parts.specs.code.Meet.{Workspace, workspace}
-use Rattle.sweep_parts.specs.code.Arrays.{arrays}
+use Rattle.sweep_state.specs.code.Meet.{Workspace, workspace}
+use Rattle.sweep_state.specs.code.Arrays.{arrays}
 use borrow.Author.Needs.{needs}
 use lib.Seq.{length-take-le}
 use mathlib.Core.Path.{sym}

@@ -1,7 +1,7 @@
 -- Invariant: the inputs below v have their rows, and the model goes on from there as it went from the first.
 -- The measure is what is left of the first vertices.
 use Prim.Native.Nat.{_-_}
-use Rattle.sweep_parts.specs.code.Arrays.{arrays}
+use Rattle.sweep_state.specs.code.Arrays.{arrays}
 use Rattle.sweep_start.proofs.InputModel.{Along, along-asks, along-begins, along-ends, along-goes-on, along-short}
 use Rattle.sweep_start.proofs.inputs.give_rows.Statement.{statement}
 use Rattle.sweep_start.proofs.inputs.give_rows.Tie as tie

@@ -1,7 +1,7 @@
 -- Whether every input got its row decides; no loop.
 -- One law for each answer, for all functions and entry rows.
-use Rattle.sweep_parts.specs.code.Meet.{workspace}
-use Rattle.sweep_parts.specs.code.Arrays.{arrays}
+use Rattle.sweep_state.specs.code.Meet.{workspace}
+use Rattle.sweep_state.specs.code.Arrays.{arrays}
 use Rattle.sweep_start.proofs.BeginModel.{given-goes, given-looks, given-short, giving-framed}
 use Rattle.sweep_start.proofs.start.give_inputs.Statement.{statement}
 use Rattle.sweep_start.proofs.start.give_inputs.Tie as tie

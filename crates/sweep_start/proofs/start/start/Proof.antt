@@ -1,7 +1,7 @@
 -- What the first look sees decides; no loop.
 -- One law for each way, for all functions.
-use Rattle.sweep_parts.specs.code.Meet.{workspace}
-use Rattle.sweep_parts.specs.code.Arrays.{arrays}
+use Rattle.sweep_state.specs.code.Meet.{workspace}
+use Rattle.sweep_state.specs.code.Arrays.{arrays}
 use Rattle.sweep_start.proofs.BeginModel.{prepared-giving, prepared-looks, start-ends, start-gives}
 use Rattle.sweep_start.proofs.start.start.Statement.{statement}
 use Rattle.sweep_start.proofs.start.start.Tie as tie

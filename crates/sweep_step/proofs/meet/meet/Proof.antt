@@ -1,6 +1,6 @@
 -- The twin is read before the diagram is drawn, and decides; no loop.
 -- One law for each way.
-use Rattle.sweep_parts.proofs.MeetLaws.{meet-alone, meet-asks, meet-merged}
+use Rattle.sweep_merge.proofs.MeetLaws.{meet-alone, meet-asks, meet-merged}
 use Rattle.sweep_step.proofs.meet.meet.Statement.{statement}
 use Rattle.sweep_step.proofs.meet.meet.Tie as tie
 use borrow.Author.Needs.{needs}

@@ -1,6 +1,6 @@
 -- The product is settled and the two literals are looked at; no loop.
 -- One law, in every setting of the product.
-use Rattle.sweep_parts.proofs.LookModel.{looks}
+use Rattle.sweep_state.proofs.LookModel.{looks}
 use Rattle.sweep_step.proofs.MultiplyModel.{conclude-looked}
 use Rattle.sweep_step.proofs.multiply.conclude.Statement.{statement}
 use Rattle.sweep_step.proofs.multiply.conclude.Tie as tie

@@ -1,7 +1,7 @@
 -- The product's answer decides; no loop.
 -- One law for each answer, in every context.
-use Rattle.sweep_parts.specs.code.Meet.{workspace}
-use Rattle.sweep_parts.specs.code.Arrays.{arrays}
+use Rattle.sweep_state.specs.code.Meet.{workspace}
+use Rattle.sweep_state.specs.code.Arrays.{arrays}
 use Rattle.sweep_step.proofs.MultiplyModel.{lacking-rows, lacking-steps, multiply-concludes, multiply-lacks-rows, multiply-lacks-steps, product-asked, product-ended}
 use Rattle.sweep_step.proofs.multiply.multiply.Statement.{statement}
 use Rattle.sweep_step.proofs.multiply.multiply.Tie as tie

@@ -1,8 +1,8 @@
 -- Invariant: the scan has come to vertex v, and the model goes on from there as it went from the first.
 -- The measure is what is left of the count.
 use Prim.Native.Nat.{_-_}
-use Rattle.sweep_parts.specs.code.Meet.{workspace}
-use Rattle.sweep_parts.specs.code.Arrays.{arrays}
+use Rattle.sweep_state.specs.code.Meet.{workspace}
+use Rattle.sweep_state.specs.code.Arrays.{arrays}
 use Rattle.sweep_turn.proofs.ScanModel.{Scanned, scan-asks, scan-begins, scan-ends, scan-goes-on, scan-stops}
 use Rattle.sweep_turn.proofs.scan.scan.Statement.{statement}
 use Rattle.sweep_turn.proofs.scan.scan.Tie as tie

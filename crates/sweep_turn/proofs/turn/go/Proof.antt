@@ -2,8 +2,8 @@
 -- The measure is the turns left.
 use Rattle.sweep_graph.specs.code.Stages.{stagesOf}
 use Rattle.sweep_model.specs.Sweep.{turnsLeft}
-use Rattle.sweep_parts.specs.code.Meet.{workspace}
-use Rattle.sweep_parts.specs.code.Arrays.{arrays}
+use Rattle.sweep_state.specs.code.Meet.{workspace}
+use Rattle.sweep_state.specs.code.Arrays.{arrays}
 use Rattle.sweep_turn.proofs.GoModel.{Turning, pick-asks, turn-asks, turns-begin, turns-end, turns-fall, turns-go-on, turns-stop}
 use Rattle.sweep_turn.proofs.turn.go.Statement.{statement}
 use Rattle.sweep_turn.proofs.turn.go.Tie as tie

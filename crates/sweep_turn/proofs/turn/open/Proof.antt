@@ -1,7 +1,7 @@
 -- The vertex that waits opens, and the scan goes on from the next; no loop.
 -- One law for what the scan asks, and one for what it reached.
-use Rattle.sweep_parts.specs.code.Meet.{workspace}
-use Rattle.sweep_parts.specs.code.Arrays.{arrays}
+use Rattle.sweep_state.specs.code.Meet.{workspace}
+use Rattle.sweep_state.specs.code.Arrays.{arrays}
 use Rattle.sweep_turn.proofs.TurnModel.{open-asks, open-ends}
 use Rattle.sweep_turn.proofs.turn.open.Statement.{statement}
 use Rattle.sweep_turn.proofs.turn.open.Tie as tie

@@ -1,7 +1,7 @@
 -- Whether the vertex is ready decides; no loop.
 -- One law for each way, in every context.
-use Rattle.sweep_parts.specs.code.Meet.{workspace}
-use Rattle.sweep_parts.specs.code.Arrays.{arrays}
+use Rattle.sweep_state.specs.code.Meet.{workspace}
+use Rattle.sweep_state.specs.code.Arrays.{arrays}
 use Rattle.sweep_turn.proofs.VisitModel.{ready-asked, ready-due, visit-passes, visit-went}
 use Rattle.sweep_turn.proofs.visit.visit.Statement.{statement}
 use Rattle.sweep_turn.proofs.visit.visit.Tie as tie

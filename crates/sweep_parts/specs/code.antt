@@ -1,9 +1,0 @@
-pub mod Cause
-pub mod Ending
-pub mod Look
-pub mod Meet
-pub mod Operands
-pub mod Represents
-pub mod Settle
-pub mod Arrays
-pub mod Words

@@ -1,0 +1,7 @@
+pub mod Arrays
+pub mod Ending
+pub mod Look
+pub mod Meet
+pub mod Represents
+pub mod Settle
+pub mod Words
