@@ -4,6 +4,7 @@ use aig::fold::Folded;
 use aig::literal::Literal;
 use aig::lookup;
 use aig::lookup::Found;
+use load_model::MAX_VERTICES;
 use netlist::records::Operation;
 ghost use Prim.Native.Nat.{_*_, _+_, _<_, _≤_};
 ghost use Rattle.aig.specs.Lookup.{entered, withRow};
@@ -14,9 +15,6 @@ ghost use Rattle.netlist.specs.Check.{andsOf};
 ghost use Rattle.table.specs.Limits.{maxAnds, maxInputs};
 ghost use lib.ListN.{length};
 ghost use mathlib.Core.Path.{_≡_};
-
-// The most vertices: the constant, the inputs and the ANDs.
-pub const MAX_VERTICES: usize = 1 + table::MAX_INPUTS as usize + table::MAX_ANDS as usize;
 
 // The vertices so far, and how the ANDs that were asked for ended.
 pub struct Counts {
