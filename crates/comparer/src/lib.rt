@@ -3,8 +3,7 @@ mod task;
 mod work;
 
 pub use compare_model::Limits;
-use compare_parts::refusal;
-use compare_parts::refusal::Lengths;
+use compare_refusal::Lengths;
 pub use sweep_model::Cause;
 pub use sweep_model::Counts;
 pub use sweep_model::Reply;
@@ -40,7 +39,7 @@ pub fn compare(
         marks: marks.len(),
         setting: setting.len(),
     };
-    let number = refusal::first_refusal(&table[..], output, limits, lengths);
+    let number = compare_refusal::first_refusal(&table[..], output, limits, lengths);
     if number != 0 {
         return Reply::Refused(number);
     }

@@ -1,10 +1,10 @@
 // A comparison that is not refused.
 use crate::task::task_of;
+use compare_copy::copy_in;
+use compare_copy::copy_out;
 use compare_model::Limits;
-use compare_parts::copy::copy_in;
-use compare_parts::copy::copy_out;
-use compare_parts::reply::reply_of;
-use compare_parts::reply::write_setting;
+use compare_reply::reply_of;
+use compare_reply::write_setting;
 use sweep::sweep;
 use sweep_model::Reply;
 use sweep_state::end::Ended;

@@ -2,20 +2,18 @@
 use Prim.Native.Nat.{_*_, _+_, _≤_, ℕ}
 use Rattle.load_model.specs.Load.{LoadRoom, accepted, countsDiffer?, loadResult, maxTable, maxVertices, pairTests, readResult, refused, shortSlice?, tableAfter, tableOf, tallyOf}
 use Rattle.load_model.specs.declared.Tally.{Tally}
-use Rattle.load.specs.code.Decision.{checkedAs, decision, pairDecision, readDecision}
-use Rattle.load.specs.code.File.{netlistOf}
+use Rattle.load_decision.specs.code.Decision.{checkedAs, decision, pairDecision, readDecision}
+use Rattle.load_file.specs.code.File.{netlistOf}
 use Rattle.load.specs.code.Pair.{Agreed, Enough}
-use Rattle.load.specs.declared.decision.Decision.the-variants.{Go, Refused}
-use Rattle.load.specs.declared.decision.Decision.{Decision}
-use Rattle.netlist_model.proofs.ReadLaws.{accepted-holds}
-use Rattle.netlist_model.specs.code.Accepted.{HoldsNetlist, countsIn}
-use Rattle.netlist_model.specs.Check as check
-use Rattle.netlist_model.specs.Check.{answerOf, checkFile, readBy, readNetlist, summaryCounts}
-use Rattle.netlist_model.specs.Limits.{maxBytes}
-use Rattle.netlist_model.specs.code.Passing.{StartsAt}
-use Rattle.netlist_model.specs.declared.Checked.the-variants as checked
-use Rattle.netlist_model.specs.declared.Checked.{Checked}
-use Rattle.netlist_model.specs.declared.Summary.{Summary}
+use Rattle.load_decision.specs.declared.Decision.the-variants.{Go, Refused}
+use Rattle.load_decision.specs.declared.Decision.{Decision}
+use Rattle.netlist.proofs.ReadLaws.{accepted-holds}
+use Rattle.netlist.specs.code.Accepted.{HoldsNetlist, countsIn}
+use Rattle.netlist.specs.Check as check
+use Rattle.netlist.specs.Check.{answerOf, checkFile, readBy, readNetlist, summaryCounts}
+use Rattle.netlist.specs.Limits.{maxBytes}
+use Rattle.netlist.specs.declared.check.Checked.the-variants as checked
+use Rattle.netlist.specs.declared.check.Summary.{Summary}
 use Rattle.table.specs.Limits.{maxAnds}
 use Rattle.table.specs.Refusals.{firstRefusal}
 use Rattle.text.specs.Split.{upTo}
@@ -29,15 +27,6 @@ use mathlib.Core.Path.{_∙_, _≡_, ap, ap₂, refl, subst, sym}
 
 same : (m n : ℕ) → not (eqb m n) ≡ false → m ≡ n
 same m n h = eqb-true m n (not-false (eqb m n) h)
-
--- The result of a check is its answer with the place at which the gate lines start.
-pub checked-is : (start : ℕ) (r : Checked) {a : check.Answer} → answerOf r ≡ a → StartsAt start r → r ≡ checkedAs start a
-checked-is start (checked.Accepted s) e at = ap (λ (n : ℕ). checkedAs n (answerOf (checked.Accepted s))) at ∙ ap (checkedAs start) e
-checked-is start (checked.Refused k n) e at = ap (checkedAs start) e
-
--- Equal checks decide alike.
-pub both-checked : (room : LoadRoom) {c d e f : Checked} → c ≡ d → e ≡ f → readDecision c e room ≡ readDecision d f room
-both-checked room p q = ap₂ (λ (x y : Checked). readDecision x y room) p q
 
 module _ (left right : List ℕ) (room : LoadRoom) where
   -- Two files are loaded: they agree, the lent slices are long enough, and the result is the tally of their graph.

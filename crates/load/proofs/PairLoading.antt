@@ -4,9 +4,9 @@ use Rattle.load_model.proofs.PairLaws.{left-step, length-left, length-right, pa
 use Rattle.load_model.specs.Build.{Build, buildFile, buildPair, emptyBuild}
 use Rattle.load_model.specs.Load.{maxTable, maxVertices, tableOf, tableWords, tallyOf}
 use Rattle.load_model.specs.declared.Tally.{Tally}
-use Rattle.load.proofs.FileLoading.{inputs-few, outputs-few}
+use Rattle.load_file.proofs.FileLoading.{inputs-few, outputs-few}
 use Rattle.load.proofs.TableWords.{words-are}
-use Rattle.load.specs.code.File.{netlistOf}
+use Rattle.load_file.specs.code.File.{netlistOf}
 use Rattle.load.specs.code.Pair.{Agreed, TableRoom, pairOf, wordsOf}
 use Rattle.netlist_model.specs.Meaning.{andCount}
 use Rattle.netlist_model.specs.Netlist.{Netlist}

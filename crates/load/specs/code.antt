@@ -1,3 +1,1 @@
-pub mod Decision
-pub mod File
 pub mod Pair

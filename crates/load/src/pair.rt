@@ -1,5 +1,4 @@
 // Both files loaded: the graph, and then the table.
-use crate::file;
 use crate::layout;
 use load_graph::Counts;
 use load_model::Tally;
@@ -7,7 +6,7 @@ use netlist::Summary;
 ghost use Prim.Native.Nat.{_≤_};
 ghost use Rattle.load_model.specs.Load.{maxTable, tableOf, tallyOf};
 ghost use Rattle.load_graph.specs.code.Slices.{buildOf};
-ghost use Rattle.load.specs.code.File.{netlistOf};
+ghost use Rattle.load_file.specs.code.File.{netlistOf};
 ghost use Rattle.load.specs.code.Pair.{Agreed, Enough, outputsOver, pairOf};
 ghost use lib.ListN.{length};
 ghost use mathlib.Core.Path.{_≡_};
@@ -66,8 +65,8 @@ fn build_pair(
     ensures outputs { λ _. ⌜ now (outputs .exit) ≡ outputsOver (now (outputs .entry)) (pairOf (now (left .entry)) (now (right .entry)) one two) ⌝ }
 {
     let counts = load_graph::start(pairs, look, one.inputs);
-    let counts = file::load_file(left, one, pairs, look, literals, outputs, 0, counts);
-    file::load_file(
+    let counts = load_file::load_file(left, one, pairs, look, literals, outputs, 0, counts);
+    load_file::load_file(
         right,
         two,
         pairs,

@@ -4,7 +4,8 @@ use aig::fold::Folded;
 use aig::literal::Literal;
 use aig::lookup;
 use aig::lookup::Found;
-use netlist_model::Operation;
+use load_model::MAX_VERTICES;
+use netlist::records::Operation;
 ghost use Prim.Native.Nat.{_*_, _+_, _<_, _≤_};
 ghost use Rattle.aig.specs.Lookup.{entered, withRow};
 ghost use Rattle.load_model.specs.Build.{askAnd, askGate, askXor, emptyBuild};
@@ -14,9 +15,6 @@ ghost use Rattle.netlist_model.specs.Check.{andsOf};
 ghost use Rattle.table.specs.Limits.{maxAnds, maxInputs};
 ghost use lib.ListN.{length};
 ghost use mathlib.Core.Path.{_≡_};
-
-// The most vertices: the constant, the inputs and the ANDs.
-pub const MAX_VERTICES: usize = 1 + table::MAX_INPUTS as usize + table::MAX_ANDS as usize;
 
 // The vertices so far, and how the ANDs that were asked for ended.
 pub struct Counts {

@@ -1,4 +1,15 @@
-// Loading: two drawing files into one table.
+// Loading: two drawing files into one table. What it answers and what it must be lent; there is no code here.
+
+// The most vertices: the constant, the inputs and the ANDs.
+pub const MAX_VERTICES: usize = 1 + table::MAX_INPUTS as usize + table::MAX_ANDS as usize;
+
+// The words that every table fits in: a header, a row for each AND, and the outputs of both sides.
+pub const MAX_TABLE: usize = table::HEADER
+    + 2 * table::MAX_ANDS as usize
+    + 2 * table::MAX_OUTPUTS as usize;
+
+// The words that each working slice needs: two for each vertex.
+pub const WORKING_ROOM: usize = 2 * MAX_VERTICES;
 
 // How the ANDs that were asked for ended.
 pub struct Tally {

@@ -2,7 +2,7 @@
 use Prim.Native.Nat.{_*_, _+_, _≤_, ℕ}
 use Rattle.compare_model.specs.Compare.{Given, overFront}
 use Rattle.comparer.specs.Lent.{Slices, Unchanged}
-use Rattle.load.specs.Lent.{Kept, Working}
+use Rattle.load_model.specs.Lent.{Kept, Working}
 use Rattle.load_model.specs.Load.{Answer, LoadRoom, accepted, loadResult, refused, tableAfter}
 use Rattle.load_model.specs.declared.Tally.{Tally}
 use Rattle.netlist_model.specs.Check.{readNetlist}

@@ -10,7 +10,7 @@ use run_card_file::number_count;
 use sweep_model::Reply;
 ghost use Prim.Native.Nat.{_≤_};
 
-const WORKING_ROOM: usize = 2 * load_graph::MAX_VERTICES;
+const WORKING_ROOM: usize = 2 * load::MAX_VERTICES;
 
 // Four words a row of the highest row limit.
 const ROWS_ROOM: usize = 4 * 32768;
@@ -137,7 +137,7 @@ fn compare_card(
     stages: &mut [u32; WORKING_ROOM],
     rows: &mut [u32; ROWS_ROOM],
 ) -> bool {
-    let mut marks = [MARK_BEFORE; load_graph::MAX_VERTICES];
+    let mut marks = [MARK_BEFORE; load::MAX_VERTICES];
     let mut setting = [SETTING_BEFORE; SETTING_ROOM];
     let output = number(field(card, 3));
     let reply = comparer::compare(

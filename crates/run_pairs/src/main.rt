@@ -8,7 +8,7 @@ ghost use lib.ListN.{length};
 // A byte more than a file may have, so that a longer one is seen to be too long.
 const FILE_ROOM: usize = netlist_model::MAX_BYTES + 1;
 
-const WORKING_ROOM: usize = 2 * load_graph::MAX_VERTICES;
+const WORKING_ROOM: usize = 2 * load::MAX_VERTICES;
 
 const SETTING_ROOM: usize = table::MAX_INPUTS as usize;
 
@@ -106,12 +106,12 @@ fn print_report(left: &[u8], right: &[u8], short: usize) {
     let mut diagrams = [0u32; WORKING_ROOM];
     let mut stages = [0u32; WORKING_ROOM];
     let mut rows = [0u32; report_model::ROWS_ROOM];
-    let mut marks = [0u8; load_graph::MAX_VERTICES];
+    let mut marks = [0u8; load::MAX_VERTICES];
     let mut setting = [0u8; SETTING_ROOM];
     let out_end = report_model::REPORT_ROOM - less(short, 0);
     let table_end = load::MAX_TABLE - less(short, 1);
     let rows_end = report_model::ROWS_ROOM - less(short, 6);
-    let marks_end = load_graph::MAX_VERTICES - less(short, 7);
+    let marks_end = load::MAX_VERTICES - less(short, 7);
     let setting_end = SETTING_ROOM - less(short, 8);
     print_with(
         left,

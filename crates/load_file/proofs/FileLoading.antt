@@ -1,0 +1,107 @@
+-- One file loaded: its gates and then its outputs, as the file holds them.
+use Prim.Native.Nat.{_*_, _+_, _<_, _≤_, ℕ}
+use Rattle.load_model.proofs.PairMeaningLaws.{literals-length}
+use Rattle.load_model.specs.Build.{Build, Traced, askGates, buildFile, literalFor, literalsFrom}
+use Rattle.load_file.proofs.Passing.{literal-front}
+use Rattle.load_file.specs.code.File.{GatesAhead, GatesPassed, OutputsAhead}
+use Rattle.netlist.proofs.ReadLaws.{gates-in, outputs-in}
+use Rattle.netlist.specs.code.Accepted.{HoldsNetlist}
+use Rattle.netlist.specs.Check.{gatesIn, outputsIn}
+use Rattle.netlist.specs.Netlist as netlist
+use Rattle.netlist.specs.Netlist.{AllBelow, Netlist, bodyRecords}
+use Rattle.netlist.specs.Records.{fileRecords}
+use Rattle.netlist.specs.declared.check.Summary.{Summary}
+use Rattle.table.specs.Limits.{maxAnds, maxInputs, maxOutputs}
+use Rattle.text.specs.Decimal.{written}
+use lib.ListN.{drop, length, take}
+use lib.Seq.{take-at}
+use mathlib.Core.List.{List, [], _∷_, map}
+use mathlib.Core.Path.{_∙_, _≡_, ap, ap₂, refl, sym}
+use native.Mathlib.Omega.{arith}
+
+below-more : {n m : ℕ} {rs : List ℕ} → n ≤ m → AllBelow n rs → AllBelow m rs
+below-more h netlist.AllBelow.none = netlist.AllBelow.none
+below-more {m = m} h (netlist.AllBelow.next {r = r} l b) = let k : r < m = omega arith in netlist.AllBelow.next k (below-more h b)
+
+-- References to the first n vertices need only their literals.
+map-front : (literals : List ℕ) (n : ℕ) {rs : List ℕ} → AllBelow (2 * n) rs → map (literalFor literals) rs ≡ map (literalFor (take n literals)) rs
+map-front literals n netlist.AllBelow.none = refl
+map-front literals n (netlist.AllBelow.next {r = r} l b) = ap₂ _∷_ (sym (literal-front literals n r l)) (map-front literals n b)
+
+-- The literals of the first vertices, written, are those of a file before its gates.
+first-literals : (literals : List ℕ) (n : ℕ) → take n (written literals 0 (literalsFrom 0 n)) ≡ literalsFrom 0 n
+unfolding written
+first-literals literals n = take-at (literalsFrom 0 n) (drop (0 + length (literalsFrom 0 n)) literals) n (literals-length 0 n)
+
+module _ {file : List ℕ} {s : Summary} {d : Netlist} (h : HoldsNetlist file s d) where
+  -- The counts of a file and their limits.
+  pub inputs-few : s .inputs ≤ maxInputs
+  inputs-few = rw (h .counts) (h .within .inputs)
+
+  pub gates-few : s .gates ≤ 4096
+  gates-few = rw (h .counts) (h .within .gates)
+
+  pub outputs-few : s .outputs ≤ maxOutputs
+  outputs-few = rw (h .counts) (h .within .outputs)
+
+  -- The gates of the file are ahead of its first line.
+  pub gates-there : {asked : ℕ} → asked + s .ands ≤ maxAnds → GatesAhead file (s .start) (s .gates) (1 + s .inputs) asked
+  unfolding bodyRecords
+  gates-there room =
+      record {
+        gates = d .gates;
+        outputs = d .outputs;
+        inside = h .inside;
+        records = h .body;
+        counted = rw (h .counts) refl;
+        downward = rw (h .counts) (h .within .downward);
+        room = rw (h .counts) at room;
+      }
+
+  gates-are : gatesIn (fileRecords (drop (s .start) file)) ≡ d .gates
+  unfolding bodyRecords
+  gates-are = rw (h .body) (gates-in (d .gates) (d .outputs))
+
+  outputs-are : outputsIn (fileRecords (drop (s .start) file)) ≡ d .outputs
+  unfolding bodyRecords
+  outputs-are = rw (h .body) (outputs-in (d .gates) (d .outputs))
+
+  outputs-below : AllBelow (2 * (1 + s .inputs + s .gates)) (d .outputs)
+  outputs-below = rw (h .counts) (h .within .below)
+
+  module _ {before after : Traced} {at : ℕ} (p : GatesPassed file (s .start) before after at) where
+    -- Its outputs are ahead of the line after the gates.
+    pub outputs-there : {n : ℕ} → 1 + s .inputs + s .gates ≤ n → OutputsAhead file at (s .outputs) n
+    outputs-there few =
+        record {
+          references = d .outputs;
+          inside = p .inside;
+          records = rw outputs-are at (p .records);
+          counted = rw (h .counts) refl;
+          below = below-more (omega arith) outputs-below;
+        }
+
+    references-are : outputsIn (fileRecords (drop at file)) ≡ d .outputs
+    references-are = rw (p .records, outputs-are) (outputs-in [] (d .outputs))
+
+  -- The graph after the file, and the literals for its references.
+  module _
+      (literals later : List ℕ) {b c : Build} {at : ℕ}
+      (p : GatesPassed file (s .start) (record { literals = take (1 + s .inputs) (written literals 0 (literalsFrom 0 (1 + s .inputs))); build = b })
+      (record { literals = take (1 + s .inputs + s .gates) later; build = c }) at) where
+    traced :
+        _≡_ {A = Traced} (record { literals = take (1 + s .inputs + s .gates) later; build = c })
+        (askGates (record { literals = literalsFrom 0 (1 + d .inputs); build = b }) (d .gates))
+    traced =
+        let i : s .inputs ≡ d .inputs = ap (λ (x : Summary). x .inputs) (h .counts) in
+        rw (← i) (rw (first-literals literals (1 + s .inputs), gates-are) at (p .asked))
+
+    pub file-built : c ≡ buildFile b d .build
+    unfolding buildFile
+    file-built = ap (λ (t : Traced). t .build) traced
+
+    pub file-outputs : map (literalFor later) (outputsIn (fileRecords (drop at file))) ≡ buildFile b d .outputs
+    unfolding buildFile
+    file-outputs =
+        rw (references-are p)
+        (map-front later (1 + s .inputs + s .gates) outputs-below ∙ ap (λ (t : Traced). map (literalFor (t .literals)) (d .outputs)) traced)

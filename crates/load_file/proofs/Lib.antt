@@ -1,0 +1,3 @@
+pub mod FileLoading
+pub mod FirstLiterals
+pub mod Passing
