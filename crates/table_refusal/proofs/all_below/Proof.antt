@@ -1,10 +1,10 @@
 -- The loop's invariant: the test of the words from i on is the test of all words.
 -- The measure is what is left of the length.
 use Prim.Native.Nat.{_-_, _≤_}
-use Rattle.table.proofs.TestLaws.{all-below-step}
-use Rattle.table.proofs.all_below.Statement.{statement}
-use Rattle.table.proofs.all_below.Tie as tie
+use Rattle.table_refusal.proofs.TestLaws.{all-below-step}
+use Rattle.table_refusal.proofs.all_below.Statement.{statement}
+use Rattle.table_refusal.proofs.all_below.Tie as tie
 use Rattle.table.specs.Table.{allBelow?}
 use borrow.Author.Needs.{needs}
 use borrow.Author.Tests.{le-ltb, lt-ltb}
 use lib.ListN.{drop, drop-of-length-le, length}

@@ -1,8 +1,8 @@
 -- The tests in the order of their numbers; no loop.
 use Rattle.table.proofs.AcceptedLaws.{well-formed}
-use Rattle.table.proofs.refusal.Statement.{statement}
-use Rattle.table.proofs.refusal.Tie as tie
+use Rattle.table_refusal.proofs.refusal.Statement.{statement}
+use Rattle.table_refusal.proofs.refusal.Tie as tie
 use Rattle.table.specs.Refusals.{firstRefusal}
 use borrow.Author.Needs.{needs}
 use mathlib.Core.Path.{_∙_, refl, sym}
 

@@ -1,10 +1,10 @@
 -- The loop's invariant: v is the vertex of row i, and the test of the rows from i on is the test of all rows.
 -- The measure is the number of rows that are left.
 use Prim.Native.Nat.{_*_, _+_, _-_, _≤_}
-use Rattle.table.proofs.TestLaws.{downward-step}
-use Rattle.table.proofs.is_downward.Statement.{statement}
-use Rattle.table.proofs.is_downward.Tie as tie
+use Rattle.table_refusal.proofs.TestLaws.{downward-step}
+use Rattle.table_refusal.proofs.is_downward.Statement.{statement}
+use Rattle.table_refusal.proofs.is_downward.Tie as tie
 use Rattle.table.specs.Table.{downward?, pairs}
 use borrow.Author.Needs.{needs}
 use borrow.Author.Tests.{not-false, not-true}
 use lib.ListN.{drop}

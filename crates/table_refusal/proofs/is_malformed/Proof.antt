@@ -1,7 +1,7 @@
 -- Each return is the first part of test 10 that applies, or the last part; no loop.
-use Rattle.table.proofs.is_malformed.Statement.{statement}
-use Rattle.table.proofs.is_malformed.Tie as tie
+use Rattle.table_refusal.proofs.is_malformed.Statement.{statement}
+use Rattle.table_refusal.proofs.is_malformed.Tie as tie
 use Rattle.table.specs.Table.{malformed?}
 use borrow.Author.Needs.{needs}
 use borrow.Author.Tests.{le-ltb, lt-ltb}
 use mathlib.Core.Path.{_∙_, sym}

@@ -1,8 +1,8 @@
 -- The rows are tested, then the output references; no loop.
 use Prim.Native.Nat.{_*_, _+_, _-_}
-use Rattle.table.proofs.is_out_of_order.Statement.{statement}
-use Rattle.table.proofs.is_out_of_order.Tie as tie
+use Rattle.table_refusal.proofs.is_out_of_order.Statement.{statement}
+use Rattle.table_refusal.proofs.is_out_of_order.Tie as tie
 use Rattle.table.specs.Table.{madeOf, outOfOrder?, outputWords, outputsOf, rowsOf}
 use borrow.Author.Needs.{needs}
 use borrow.Author.Tests.{not-false, not-true}
 use mathlib.Core.Path.{_≡_, refl}
