@@ -1,6 +1,6 @@
 -- The bytes of a setting and their digits.
 use Prim.Native.Nat.{_+_, _-_, _<_, _≤_, suc, zero, ℕ}
-use Rattle.evaluate.specs.Evaluate.{allDigits?, bit, digit?, digitOne, digitZero, digitsOf}
+use Rattle.evaluate_model.specs.Evaluate.{allDigits?, bit, digit?, digitOne, digitZero, digitsOf}
 use Rattle.truth.proofs.Booleans.{and-left, and-right, or-cases}
 use borrow.Author.Tests.{eqb-true}
 use lib.Dec.{eqb}

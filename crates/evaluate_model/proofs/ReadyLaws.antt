@@ -2,9 +2,9 @@
 use Prim.Native.Nat.{_+_, _<_, _≤_, ℕ}
 use Rattle.aig.specs.Literal.{vertexOf}
 use Rattle.aig.specs.Values.{literalValue}
-use Rattle.evaluate.proofs.NumberLaws.{bit-numbers, bits-mapped, literal-taken, vertex-bit}
-use Rattle.evaluate.specs.Evaluate.{Ready, bit, callTests, digitsOf, evaluateTests, evaluatedValue, evaluation, refused, side?, unknown?, valued}
-use Rattle.evaluate.specs.code.Values.{Bits, numberLiteral, numberValues}
+use Rattle.evaluate_model.proofs.NumberLaws.{bit-numbers, bits-mapped, literal-taken, vertex-bit}
+use Rattle.evaluate_model.specs.Evaluate.{Ready, bit, callTests, digitsOf, evaluateTests, evaluatedValue, evaluation, refused, side?, unknown?, valued}
+use Rattle.evaluate_model.specs.code.Values.{Bits, numberLiteral, numberValues}
 use Rattle.table.proofs.AcceptedLaws.{accepted, side-output-below}
 use Rattle.table.proofs.LayoutLaws.{graph-outputs}
 use Rattle.table.proofs.MeaningLaws.{literal-mapped, values-mapped}

@@ -1,6 +1,6 @@
 -- Each return is the first test that applies, the tests before it having failed; no loop.
-use Rattle.evaluate.proofs.refusal.call_refusal.Statement.{statement}
-use Rattle.evaluate.proofs.refusal.call_refusal.Tie as tie
+use Rattle.evaluate_refusal.proofs.call_refusal.Statement.{statement}
+use Rattle.evaluate_refusal.proofs.call_refusal.Tie as tie
 use Rattle.table.specs.Refusals.{firstRefusal}
 use borrow.Author.Needs.{needs}
 use borrow.Author.Tests.{eq-eqb, le-ltb, lt-ltb, ne-eqb}

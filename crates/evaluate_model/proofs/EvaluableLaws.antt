@@ -1,8 +1,8 @@
 -- Demand 1 for evaluate: a call that keeps the rules is not refused, and no other is answered.
 use Prim.Native.Nat.{_<_, suc, zero, ℕ}
-use Rattle.evaluate.proofs.ReadyLaws.{ready, value-answers}
-use Rattle.evaluate.specs.Evaluable.{Evaluable}
-use Rattle.evaluate.specs.Evaluate.{allDigits?, callTests, digit?, evaluateTests, evaluatedValue, evaluation, refused, side?, unknown?, valued}
+use Rattle.evaluate_model.proofs.ReadyLaws.{ready, value-answers}
+use Rattle.evaluate_model.specs.Evaluable.{Evaluable}
+use Rattle.evaluate_model.specs.Evaluate.{allDigits?, callTests, digit?, evaluateTests, evaluatedValue, evaluation, refused, side?, unknown?, valued}
 use Rattle.table.proofs.FitsLaws.{fits-passes, passed-fits}
 use Rattle.table.proofs.RefusalLaws.{first-passed, table-passed}
 use Rattle.table.specs.Refusals.{firstRefusal}

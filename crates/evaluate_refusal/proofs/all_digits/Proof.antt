@@ -1,10 +1,10 @@
 -- The loop's invariant: the test of the bytes from i on is the test of all bytes.
 -- The measure is what is left of the length.
 use Prim.Native.Nat.{_-_, _≤_}
-use Rattle.evaluate.proofs.DigitLaws.{all-digits-step}
-use Rattle.evaluate.proofs.refusal.all_digits.Statement.{statement}
-use Rattle.evaluate.proofs.refusal.all_digits.Tie as tie
-use Rattle.evaluate.specs.Evaluate.{allDigits?}
+use Rattle.evaluate_model.proofs.DigitLaws.{all-digits-step}
+use Rattle.evaluate_refusal.proofs.all_digits.Statement.{statement}
+use Rattle.evaluate_refusal.proofs.all_digits.Tie as tie
+use Rattle.evaluate_model.specs.Evaluate.{allDigits?}
 use borrow.Author.Needs.{needs}
 use borrow.Author.Tests.{not-false, not-true}
 use lib.ListN.{drop, drop-of-length-le, length}

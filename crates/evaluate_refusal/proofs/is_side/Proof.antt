@@ -1,7 +1,7 @@
 -- The second test is made where the first fails; no loop.
-use Rattle.evaluate.proofs.refusal.is_side.Statement.{statement}
-use Rattle.evaluate.proofs.refusal.is_side.Tie as tie
-use Rattle.evaluate.specs.Evaluate.{side?}
+use Rattle.evaluate_refusal.proofs.is_side.Statement.{statement}
+use Rattle.evaluate_refusal.proofs.is_side.Tie as tie
+use Rattle.evaluate_model.specs.Evaluate.{side?}
 use borrow.Author.Tests.{eq-eqb, ne-eqb}
 
 returns : tie.Need-returns

@@ -4,8 +4,8 @@ use Rattle.aig.proofs.LiteralLaws.{vertex-below}
 use Rattle.aig.proofs.ValuesLaws.{value-good}
 use Rattle.aig.specs.Literal.{vertexOf}
 use Rattle.aig.specs.Values.{Algebra}
-use Rattle.evaluate.specs.Evaluate.{bit}
-use Rattle.evaluate.specs.code.Values.{Bits, numberInvert, numberLiteral, numberRow, numberValues}
+use Rattle.evaluate_model.specs.Evaluate.{bit}
+use Rattle.evaluate_model.specs.code.Values.{Bits, numberInvert, numberLiteral, numberRow, numberValues}
 use Rattle.table.proofs.LayoutLaws.{pairs-left}
 use Rattle.table.proofs.MeaningLaws.{value-kept, values-good}
 use Rattle.table.specs.Table.{pairs, rowAt}

@@ -1,7 +1,7 @@
 -- The refusals of the table, then the others; no loop.
-use Rattle.evaluate.proofs.refusal.first_refusal.Statement.{statement}
-use Rattle.evaluate.proofs.refusal.first_refusal.Tie as tie
-use Rattle.evaluate.specs.Evaluate.{callTests}
+use Rattle.evaluate_refusal.proofs.first_refusal.Statement.{statement}
+use Rattle.evaluate_refusal.proofs.first_refusal.Tie as tie
+use Rattle.evaluate_model.specs.Evaluate.{callTests}
 use Rattle.table.proofs.AcceptedLaws.{accepted}
 use Rattle.table.proofs.RefusalLaws.{refused-first, table-passed}
 use Rattle.table.specs.Table.{tableTests}

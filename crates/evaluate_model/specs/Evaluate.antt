@@ -1,7 +1,7 @@
 -- The evaluator: "Evaluating one side's output on a setting gives 0 or 1, its value there." (RULES 10.2)
 use Prim.Native.Nat.{_<_, _≤_, ℕ}
-use Rattle.evaluate.specs.declared.Evaluated.the-variants.{Refused, Value}
-use Rattle.evaluate.specs.declared.Evaluated.{Evaluated}
+use Rattle.evaluate_model.specs.declared.Evaluated.the-variants.{Refused, Value}
+use Rattle.evaluate_model.specs.declared.Evaluated.{Evaluated}
 use Rattle.table.specs.Accepted.{Accepted}
 use Rattle.table.specs.Refusals.{Test, firstRefusal}
 use Rattle.table.specs.Table.{graphOf, inputsOf, outputValue, outputsOf, tableTests, verticesOf}

@@ -1,12 +1,10 @@
 // The refusals of the evaluator: 10, 11, 12, 14, 16 and 17.
-ghost use Rattle.evaluate.specs.Evaluate.{allDigits?, callTests, digit?, evaluateTests, side?, unknown?};
+use evaluate_model::DIGIT_ONE;
+use evaluate_model::DIGIT_ZERO;
+ghost use Rattle.evaluate_model.specs.Evaluate.{allDigits?, callTests, digit?, evaluateTests, side?, unknown?};
 ghost use Rattle.table.specs.Accepted.{WellFormed};
 ghost use Rattle.table.specs.Refusals.{firstRefusal};
 ghost use mathlib.Core.Path.{_≡_};
-
-pub const DIGIT_ZERO: u8 = 48;
-
-pub const DIGIT_ONE: u8 = 49;
 
 fn is_side(side: u32) -> bool
     ensures { λ r. ⌜ r ≡ side? side ⌝ }
@@ -66,7 +64,7 @@ fn call_refusal(table: &[u32], side: u32, output: u32, setting: &[u8], room: usi
 pub fn first_refusal(table: &[u32], side: u32, output: u32, setting: &[u8], room: usize) -> u32
     ensures { λ r. ⌜ r ≡ firstRefusal 0 (evaluateTests (now (table .entry)) side output (now (setting .entry)) room) ⌝ }
 {
-    let number = table::refusal(table);
+    let number = table_refusal::refusal(table);
     if number != 0 {
         return number;
     }

@@ -1,7 +1,7 @@
 -- The output number is tested where the side is 1 or 2; no loop.
-use Rattle.evaluate.proofs.refusal.is_unknown.Statement.{statement}
-use Rattle.evaluate.proofs.refusal.is_unknown.Tie as tie
-use Rattle.evaluate.specs.Evaluate.{unknown?}
+use Rattle.evaluate_refusal.proofs.is_unknown.Statement.{statement}
+use Rattle.evaluate_refusal.proofs.is_unknown.Tie as tie
+use Rattle.evaluate_model.specs.Evaluate.{unknown?}
 use borrow.Author.Needs.{needs}
 use borrow.Author.Tests.{not-false, not-true}
 use mathlib.Core.Path.{refl}
