@@ -4,7 +4,6 @@ mod values;
 ghost use Rattle.evaluate_model.specs.Evaluate.{Kept, answerOf, evaluation};
 ghost use lib.ListN.{length};
 ghost use mathlib.Core.Path.{_≡_};
-
 pub use evaluate_model::Evaluated;
 
 // The value of output `output` of side 1 or 2 on a setting of one byte an input, 48 or 49. The slice `values` is used to work in.

@@ -1,8 +1,8 @@
 -- Invariant: no vertex above the current one has the pair, and the current one is of the pair's chain.
 -- The measure is the current vertex: the next one of a chain is lower.
-use Rattle.aig.proofs.WalkLaws.{Walk, walk-ends, walk-falls, walk-finds, walk-goes-on, walk-starts}
-use Rattle.aig.proofs.lookup.find_vertex.Statement.{statement}
-use Rattle.aig.proofs.lookup.find_vertex.Tie as tie
+use Rattle.aig_lookup.proofs.WalkLaws.{Walk, walk-ends, walk-falls, walk-finds, walk-goes-on, walk-starts}
+use Rattle.aig_lookup.proofs.find_vertex.Statement.{statement}
+use Rattle.aig_lookup.proofs.find_vertex.Tie as tie
 use borrow.Author.Needs.{needs}
 use mathlib.Core.Path.{_∙_, sym}
 use native.Mathlib.Omega.{arith}

@@ -1,6 +1,6 @@
 -- Two stores, in the order of the definition; no loop.
-use Rattle.aig.proofs.lookup.enter.Statement.{statement}
-use Rattle.aig.proofs.lookup.enter.Tie as tie
+use Rattle.aig_lookup.proofs.enter.Statement.{statement}
+use Rattle.aig_lookup.proofs.enter.Tie as tie
 use borrow.Author.Needs.{needs}
 use lib.ListN.{length-set}
 use native.Mathlib.Omega.{arith}

@@ -1,7 +1,7 @@
 -- The wrapping sum is what the library's contract says; no loop.
-use Rattle.aig.proofs.lookup.first_place.Statement.{statement}
-use Rattle.aig.proofs.lookup.first_place.Tie as tie
+use Rattle.aig_lookup.proofs.first_place.Statement.{statement}
+use Rattle.aig_lookup.proofs.first_place.Tie as tie
 use Rattle.aig.specs.Lookup.{firstPlace}
 use borrow.Author.Needs.{needs}
 use native.Mathlib.Nat.{mod-lt}
 

@@ -1,6 +1,6 @@
 -- The first word decides, or else the second; no loop.
-use Rattle.aig.proofs.lookup.has_pair.Statement.{statement}
-use Rattle.aig.proofs.lookup.has_pair.Tie as tie
+use Rattle.aig_lookup.proofs.has_pair.Statement.{statement}
+use Rattle.aig_lookup.proofs.has_pair.Tie as tie
 use borrow.Author.Needs.{needs}
 use borrow.Author.Tests.{eq-eqb, ne-eqb}
 

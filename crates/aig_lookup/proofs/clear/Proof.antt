@@ -1,9 +1,9 @@
 -- Invariant: the places below i are cleared, and nothing else is changed.
 -- The measure is what is left of the places.
 use Prim.Native.Nat.{_-_, _<_, _≤_, ℕ}
-use Rattle.aig.proofs.lookup.clear.Statement.{statement}
-use Rattle.aig.proofs.lookup.clear.Tie as tie
+use Rattle.aig_lookup.proofs.clear.Statement.{statement}
+use Rattle.aig_lookup.proofs.clear.Tie as tie
 use Rattle.aig.specs.Lookup.{cleared}
 use borrow.Author.Fill.{fill-more}
 use borrow.Author.Needs.{needs}
 use lib.ListN.{length, length-set, set}
