@@ -6,4 +6,3 @@ pub mod OwnLaws
 pub mod PairsLaws
 pub mod TruthLaws
 pub mod ValuesLaws
-mod WalkLaws

@@ -1,4 +1,4 @@
-// And-inverter graphs: literals, the folding of an AND, and the look-up of vertices by their pairs.
+// And-inverter graphs: literals, the folding of an AND, and what the look-up of vertices by their pairs answers.
 pub mod fold;
 pub mod literal;
 pub mod lookup;

@@ -93,7 +93,7 @@ fn call_refusal(table: &[u32], output: u32, limits: Limits, lengths: Lengths) ->
 pub fn first_refusal(table: &[u32], output: u32, limits: Limits, lengths: Lengths) -> u32
     ensures { λ r. ⌜ r ≡ firstRefusal 0 (tableTests (now (table .entry)) ++ callTests (now (table .entry)) output (limitsOf limits) (roomOf lengths) (lengths .marks) (lengths .setting)) ⌝ }
 {
-    let number = table::refusal(table);
+    let number = table_refusal::refusal(table);
     if number != 0 {
         return number;
     }

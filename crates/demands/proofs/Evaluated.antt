@@ -7,8 +7,8 @@ use Rattle.compare_model.specs.Claims.{Differs}
 use Rattle.compare_model.specs.Compare.{Given, Left, compared, refusalOf, settingBytes, turnedBack}
 use Rattle.compare_model.specs.Said.{Said}
 use Rattle.demands.specs.Evaluated.{Confirmed, written}
-use Rattle.evaluate.proofs.EvaluableLaws.{evaluates}
-use Rattle.evaluate.specs.Evaluate.{bit, digitsOf, evaluatedValue, evaluation, valued}
+use Rattle.evaluate_model.proofs.EvaluableLaws.{evaluates}
+use Rattle.evaluate_model.specs.Evaluate.{bit, digitsOf, evaluatedValue, evaluation, valued}
 use Rattle.product_model.proofs.Cases.{impossible}
 use Rattle.table.proofs.FitsLaws.{accepted-fits}
 use Rattle.table.specs.Table.{graphOf, inputsOf, outputValue, verticesOf}

@@ -1,7 +1,7 @@
 -- Two calls tied: evaluate, on the table as a comparison left it and the setting that a Different wrote.
 use Prim.Native.Nat.{ℕ}
 use Rattle.compare_model.specs.Compare.{Given, Left}
-use Rattle.evaluate.specs.Evaluate.{evaluation, valued}
+use Rattle.evaluate_model.specs.Evaluate.{evaluation, valued}
 use Rattle.table.specs.Table.{inputsOf}
 use lib.ListN.{take}
 use mathlib.Core.List.{List}

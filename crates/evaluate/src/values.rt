@@ -1,11 +1,11 @@
 // The values of a table's vertices on a setting, one byte a vertex.
-use crate::refusal::DIGIT_ZERO;
 use aig::literal::Literal;
+use evaluate_model::DIGIT_ZERO;
 use table::HEADER;
 ghost use Prim.Native.Nat.{_*_, _+_, _<_, _≤_};
 ghost use Rattle.aig.specs.Literal.{vertexOf};
-ghost use Rattle.evaluate.specs.Evaluate.{Ready, allDigits?, bit, digitsOf, evaluatedValue};
-ghost use Rattle.evaluate.specs.code.Values.{Bits, numberLiteral, numberRow, numberValues};
+ghost use Rattle.evaluate_model.specs.Evaluate.{Ready, allDigits?, bit, digitsOf, evaluatedValue};
+ghost use Rattle.evaluate_model.specs.code.Values.{Bits, numberLiteral, numberRow, numberValues};
 ghost use Rattle.table.specs.Accepted.{Accepted, RowBelow};
 ghost use Rattle.table.specs.Table.{inputsOf, rowAt, rowsOf, verticesOf};
 ghost use lib.ListN.{getD, length, take};

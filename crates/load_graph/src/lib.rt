@@ -2,7 +2,6 @@
 use aig::fold;
 use aig::fold::Folded;
 use aig::literal::Literal;
-use aig::lookup;
 use aig::lookup::Found;
 use load_model::MAX_VERTICES;
 use netlist::records::Operation;
@@ -74,7 +73,7 @@ pub fn start(pairs: &mut [u32], look: &mut [u32], inputs: u32) -> Counts
     ensures graph { λ r. ⌜ Graph (now (pairs .exit)) (now (look .exit)) r ⌝ }
 {
     words::write_own(pairs, 1 + inputs);
-    lookup::clear(look, MAX_VERTICES);
+    aig_lookup::clear(look, MAX_VERTICES);
     Counts {
         vertices: 1 + inputs,
         asked: 0,
@@ -98,7 +97,7 @@ fn ask_and(pairs: &mut [u32], look: &mut [u32], counts: Counts, p: Literal, q: L
             counts: counts.after(Ended::Folded),
         },
         Folded::Pair(x, y) => {
-            let found = lookup::find_vertex(
+            let found = aig_lookup::find_vertex(
                 &pairs[..],
                 vertices,
                 &look[..],
@@ -132,7 +131,7 @@ fn add_row(pairs: &mut [u32], look: &mut [u32], v: u32, p: u32, q: u32)
     let at = 2 * v as usize;
     pairs[at] = p;
     pairs[at + 1] = q;
-    lookup::enter(look, MAX_VERTICES, v, p, q);
+    aig_lookup::enter(look, MAX_VERTICES, v, p, q);
 }
 
 // Asks for the ANDs that a gate stands for.

@@ -4,4 +4,3 @@ pub mod FunctionLaws
 pub mod LayoutLaws
 pub mod MeaningLaws
 pub mod RefusalLaws
-pub mod TestLaws

@@ -1,5 +1,5 @@
 -- A refusal, or the value where there is none; no loop.
-use Rattle.evaluate.proofs.ReadyLaws.{ready, refusal-answers, value-answers}
+use Rattle.evaluate_model.proofs.ReadyLaws.{ready, refusal-answers, value-answers}
 use Rattle.evaluate.proofs.evaluate.Statement.{statement}
 use Rattle.evaluate.proofs.evaluate.Tie as tie
 use borrow.Author.Needs.{needs}

@@ -1,10 +1,10 @@
 -- The loop's invariant: the numbers written, and after them those of the digits from i on, are the numbers of false and all digits.
 -- The measure is what is left of the setting.
 use Prim.Native.Nat.{_+_, _-_, _<_, _≤_}
-use Rattle.evaluate.proofs.DigitLaws.{digit-at, digits-end, digits-step}
+use Rattle.evaluate_model.proofs.DigitLaws.{digit-at, digits-end, digits-step}
 use Rattle.evaluate.proofs.values.fill_inputs.Statement.{statement}
 use Rattle.evaluate.proofs.values.fill_inputs.Tie as tie
-use Rattle.evaluate.specs.Evaluate.{bit, digitsOf}
+use Rattle.evaluate_model.specs.Evaluate.{bit, digitsOf}
 use borrow.Author.Needs.{needs}
 use lib.ListN.{drop, length, length-set, take}
 use lib.Seq.{take-suc-set}

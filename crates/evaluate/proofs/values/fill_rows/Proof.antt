@@ -1,10 +1,10 @@
 -- The loop's invariant: the rows from i on, given the values below their first vertex, have the values that all rows have.
 -- The measure is the number of rows that are left.
 use Prim.Native.Nat.{_*_, _+_, _-_, _<_, _≤_}
-use Rattle.evaluate.proofs.NumberLaws.{bits-ahead, values-end, values-step}
+use Rattle.evaluate_model.proofs.NumberLaws.{bits-ahead, values-end, values-step}
 use Rattle.evaluate.proofs.values.fill_rows.Statement.{statement}
 use Rattle.evaluate.proofs.values.fill_rows.Tie as tie
-use Rattle.evaluate.specs.code.Values.{numberValues}
+use Rattle.evaluate_model.specs.code.Values.{numberValues}
 use Rattle.table.proofs.AcceptedLaws.{row-words-below}
 use Rattle.table.specs.Table.{inputsOf, pairs, rowsOf, verticesOf}
 use borrow.Author.Needs.{needs}

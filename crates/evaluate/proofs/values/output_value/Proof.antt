@@ -1,5 +1,5 @@
 -- The values of the inputs, then of the rows, then of the output's literal; no loop.
-use Rattle.evaluate.proofs.ReadyLaws.{all-values, inputs-bits, output-bit, output-found, output-vertex}
+use Rattle.evaluate_model.proofs.ReadyLaws.{all-values, inputs-bits, output-bit, output-found, output-vertex}
 use Rattle.evaluate.proofs.values.output_value.Statement.{statement}
 use Rattle.evaluate.proofs.values.output_value.Tie as tie
 use borrow.Author.Needs.{needs}

@@ -1,6 +1,6 @@
 -- The product of the values of the two literals, each 0 or 1; no loop.
 use Prim.Native.Nat.{_*_}
-use Rattle.evaluate.proofs.NumberLaws.{numbers, read, vertex-bit}
+use Rattle.evaluate_model.proofs.NumberLaws.{numbers, read, vertex-bit}
 use Rattle.evaluate.proofs.values.row_value.Statement.{statement}
 use Rattle.evaluate.proofs.values.row_value.Tie as tie
 use borrow.Author.Needs.{needs}
