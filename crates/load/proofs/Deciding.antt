@@ -4,7 +4,7 @@ use Rattle.load_model.specs.Load.{LoadRoom, accepted, countsDiffer?, loadResult
 use Rattle.load_model.specs.declared.Tally.{Tally}
 use Rattle.load_decision.specs.code.Decision.{checkedAs, decision, pairDecision, readDecision}
 use Rattle.load_file.specs.code.File.{netlistOf}
-use Rattle.load.specs.code.Pair.{Agreed, Enough}
+use Rattle.load_pair.specs.code.Pair.{Agreed, Enough}
 use Rattle.load_decision.specs.declared.Decision.the-variants.{Go, Refused}
 use Rattle.load_decision.specs.declared.Decision.{Decision}
 use Rattle.netlist.proofs.ReadLaws.{accepted-holds}

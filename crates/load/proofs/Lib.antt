@@ -1,4 +1,1 @@
-pub mod Copying
 pub mod Deciding
-pub mod PairLoading
-pub mod TableWords

@@ -4,10 +4,6 @@ ghost use Rattle.load_model.specs.Load.{answerOf, loadResult, tableAfter};
 ghost use Rattle.load_model.specs.Lent.{Kept, roomIn, working};
 ghost use Rattle.netlist.specs.Check.{readNetlist};
 ghost use mathlib.Core.Path.{_≡_};
-
-mod layout;
-mod pair;
-
 pub use load_model::Loaded;
 pub use load_model::MAX_TABLE;
 pub use load_model::MAX_VERTICES;
@@ -40,7 +36,7 @@ pub fn load(
     match decision {
         Decision::Refused { number, file, line } => Loaded::Refused { number, file, line },
         Decision::Go(one, two) => {
-            let tally = pair::load_pair(
+            let tally = load_pair::load_pair(
                 left,
                 right,
                 one,

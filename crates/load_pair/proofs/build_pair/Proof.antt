@@ -1,9 +1,9 @@
 -- The first vertices, the first file, the second file, as the definition says; no loop.
 -- The ANDs of both files are few enough for each to have room.
 use Rattle.load_file.proofs.FileLoading.{inputs-few}
-use Rattle.load.proofs.PairLoading.{netlist-inputs, none-asked, pair-built, pair-outputs, room-left}
-use Rattle.load.proofs.pair.build_pair.Statement.{statement}
-use Rattle.load.proofs.pair.build_pair.Tie as tie
+use Rattle.load_pair.proofs.PairLoading.{netlist-inputs, none-asked, pair-built, pair-outputs, room-left}
+use Rattle.load_pair.proofs.build_pair.Statement.{statement}
+use Rattle.load_pair.proofs.build_pair.Tie as tie
 use Rattle.load_file.specs.code.File.{netlistOf}
 use borrow.Author.Needs.{needs}
 use native.Mathlib.Omega.{arith}

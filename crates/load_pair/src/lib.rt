@@ -1,5 +1,6 @@
 // Both files loaded: the graph, and then the table.
-use crate::layout;
+mod layout;
+
 use load_graph::Counts;
 use load_model::Tally;
 use netlist::Summary;
@@ -7,7 +8,7 @@ ghost use Prim.Native.Nat.{_≤_};
 ghost use Rattle.load_model.specs.Load.{maxTable, tableOf, tallyOf};
 ghost use Rattle.load_graph.specs.code.Slices.{buildOf};
 ghost use Rattle.load_file.specs.code.File.{netlistOf};
-ghost use Rattle.load.specs.code.Pair.{Agreed, Enough, outputsOver, pairOf};
+ghost use Rattle.load_pair.specs.code.Pair.{Agreed, Enough, outputsOver, pairOf};
 ghost use lib.ListN.{length};
 ghost use mathlib.Core.Path.{_≡_};
 

@@ -1,6 +1,6 @@
 // The words of the table: header, rows, the outputs of both files.
 ghost use Prim.Native.Nat.{_≤_};
-ghost use Rattle.load.specs.code.Pair.{TableRoom, wordsOf};
+ghost use Rattle.load_pair.specs.code.Pair.{TableRoom, wordsOf};
 ghost use Rattle.text.specs.Decimal.{written};
 ghost use lib.ListN.{length};
 ghost use mathlib.Core.List.{[], _∷_};

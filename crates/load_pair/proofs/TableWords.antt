@@ -2,7 +2,7 @@
 use Prim.Native.Nat.{_*_, _+_, _-_, _≤_, ℕ}
 use Rattle.load_model.specs.Build.{PairBuilt}
 use Rattle.load_model.specs.Load.{tableWords}
-use Rattle.load.specs.code.Pair.{TableRoom, wordsOf}
+use Rattle.load_pair.specs.code.Pair.{TableRoom, wordsOf}
 use Rattle.table.specs.Limits.{maxOutputs}
 use Rattle.text.proofs.DecimalLaws.{written-length}
 use Rattle.text.specs.Decimal.{written}

@@ -1,9 +1,9 @@
 -- Header, rows, and the outputs of both files, each after the other; no loop.
 -- The table has room for all of them.
-use Rattle.load.proofs.Copying.{table-written}
-use Rattle.load.proofs.TableWords.{left-length, right-length, right-part, rows-length}
-use Rattle.load.proofs.layout.write_table.Statement.{statement}
-use Rattle.load.proofs.layout.write_table.Tie as tie
+use Rattle.load_pair.proofs.Copying.{table-written}
+use Rattle.load_pair.proofs.TableWords.{left-length, right-length, right-part, rows-length}
+use Rattle.load_pair.proofs.layout.write_table.Statement.{statement}
+use Rattle.load_pair.proofs.layout.write_table.Tie as tie
 use borrow.Author.Needs.{needs}
 use mathlib.Core.Path.{sym}
 use native.Mathlib.Omega.{arith}

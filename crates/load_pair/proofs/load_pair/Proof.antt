@@ -1,9 +1,9 @@
 -- The graph of both files, and then its table; no loop.
 -- The ANDs are few enough for the rows to have room in the table.
 use Rattle.load_file.proofs.FileLoading.{inputs-few}
-use Rattle.load.proofs.PairLoading.{count-within, table-is, table-room, tally-is}
-use Rattle.load.proofs.pair.load_pair.Statement.{statement}
-use Rattle.load.proofs.pair.load_pair.Tie as tie
+use Rattle.load_pair.proofs.PairLoading.{count-within, table-is, table-room, tally-is}
+use Rattle.load_pair.proofs.load_pair.Statement.{statement}
+use Rattle.load_pair.proofs.load_pair.Tie as tie
 use borrow.Author.Needs.{needs}
 use mathlib.Core.Path.{_∙_, refl}
 use native.Mathlib.Omega.{arith}

@@ -1,8 +1,8 @@
 -- Three stores; no loop.
 -- Each is inside the slice, since those before it keep its length.
-use Rattle.load.proofs.Copying.{header-written}
-use Rattle.load.proofs.layout.write_header.Statement.{statement}
-use Rattle.load.proofs.layout.write_header.Tie as tie
+use Rattle.load_pair.proofs.Copying.{header-written}
+use Rattle.load_pair.proofs.layout.write_header.Statement.{statement}
+use Rattle.load_pair.proofs.layout.write_header.Tie as tie
 use borrow.Author.Needs.{needs}
 use lib.ListN.{length-set}
 use native.Mathlib.Omega.{arith}
