@@ -7,13 +7,13 @@ use Rattle.load_file.specs.code.File.{netlistOf}
 use Rattle.load_pair.specs.code.Pair.{Agreed, Enough}
 use Rattle.load_decision.specs.declared.Decision.the-variants.{Go, Refused}
 use Rattle.load_decision.specs.declared.Decision.{Decision}
-use Rattle.netlist.proofs.ReadLaws.{accepted-holds}
-use Rattle.netlist.specs.code.Accepted.{HoldsNetlist, countsIn}
-use Rattle.netlist.specs.Check as check
-use Rattle.netlist.specs.Check.{answerOf, checkFile, readBy, readNetlist, summaryCounts}
-use Rattle.netlist.specs.Limits.{maxBytes}
-use Rattle.netlist.specs.declared.check.Checked.the-variants as checked
-use Rattle.netlist.specs.declared.check.Summary.{Summary}
+use Rattle.netlist_model.proofs.ReadLaws.{accepted-holds}
+use Rattle.netlist_model.specs.code.Accepted.{HoldsNetlist, countsIn}
+use Rattle.netlist_model.specs.Check as check
+use Rattle.netlist_model.specs.Check.{answerOf, checkFile, readBy, readNetlist, summaryCounts}
+use Rattle.netlist_model.specs.Limits.{maxBytes}
+use Rattle.netlist_model.specs.declared.Checked.the-variants as checked
+use Rattle.netlist_model.specs.declared.Summary.{Summary}
 use Rattle.table.specs.Limits.{maxAnds}
 use Rattle.table.specs.Refusals.{firstRefusal}
 use Rattle.text.specs.Split.{upTo}

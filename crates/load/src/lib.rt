@@ -2,7 +2,7 @@
 use load_decision::Decision;
 ghost use Rattle.load_model.specs.Load.{answerOf, loadResult, tableAfter};
 ghost use Rattle.load_model.specs.Lent.{Kept, roomIn, working};
-ghost use Rattle.netlist.specs.Check.{readNetlist};
+ghost use Rattle.netlist_model.specs.Check.{readNetlist};
 ghost use mathlib.Core.Path.{_≡_};
 pub use load_model::Loaded;
 pub use load_model::MAX_TABLE;

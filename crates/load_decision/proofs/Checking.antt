@@ -2,11 +2,11 @@
 use Prim.Native.Nat.{ℕ}
 use Rattle.load_decision.specs.code.Decision.{checkedAs, readDecision}
 use Rattle.load_model.specs.Load.{LoadRoom}
-use Rattle.netlist.specs.Check as check
-use Rattle.netlist.specs.Check.{answerOf}
-use Rattle.netlist.specs.code.Passing.{StartsAt}
-use Rattle.netlist.specs.declared.check.Checked.the-variants as checked
-use Rattle.netlist.specs.declared.check.Checked.{Checked}
+use Rattle.netlist_model.specs.Check as check
+use Rattle.netlist_model.specs.Check.{answerOf}
+use Rattle.netlist_model.specs.code.Passing.{StartsAt}
+use Rattle.netlist_model.specs.declared.Checked.the-variants as checked
+use Rattle.netlist_model.specs.declared.Checked.{Checked}
 use mathlib.Core.Path.{_∙_, _≡_, ap, ap₂}
 
 -- The result of a check is its answer with the place at which the gate lines start.

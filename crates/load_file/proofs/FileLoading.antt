@@ -4,13 +4,13 @@ use Rattle.load_model.proofs.PairMeaningLaws.{literals-length}
 use Rattle.load_model.specs.Build.{Build, Traced, askGates, buildFile, literalFor, literalsFrom}
 use Rattle.load_file.proofs.Passing.{literal-front}
 use Rattle.load_file.specs.code.File.{GatesAhead, GatesPassed, OutputsAhead}
-use Rattle.netlist.proofs.ReadLaws.{gates-in, outputs-in}
-use Rattle.netlist.specs.code.Accepted.{HoldsNetlist}
-use Rattle.netlist.specs.Check.{gatesIn, outputsIn}
-use Rattle.netlist.specs.Netlist as netlist
-use Rattle.netlist.specs.Netlist.{AllBelow, Netlist, bodyRecords}
-use Rattle.netlist.specs.Records.{fileRecords}
-use Rattle.netlist.specs.declared.check.Summary.{Summary}
+use Rattle.netlist_model.proofs.ReadLaws.{gates-in, outputs-in}
+use Rattle.netlist_model.specs.code.Accepted.{HoldsNetlist}
+use Rattle.netlist_model.specs.Check.{gatesIn, outputsIn}
+use Rattle.netlist_model.specs.Netlist as netlist
+use Rattle.netlist_model.specs.Netlist.{AllBelow, Netlist, bodyRecords}
+use Rattle.netlist_model.specs.Records.{fileRecords}
+use Rattle.netlist_model.specs.declared.Summary.{Summary}
 use Rattle.table.specs.Limits.{maxAnds, maxInputs, maxOutputs}
 use Rattle.text.specs.Decimal.{written}
 use lib.ListN.{drop, length, take}

@@ -7,16 +7,16 @@ use Rattle.load_graph.proofs.Asking.{gate-asked}
 use Rattle.load_graph.specs.code.Slices.{tracedOf}
 use Rattle.load_graph.specs.declared.Counts.{Counts}
 use Rattle.load_file.specs.code.File.{GateLine, GatesAhead, GatesPassed, OutputLine, OutputsAhead}
-use Rattle.netlist.proofs.LineLaws.{Line, line-ahead}
-use Rattle.netlist.proofs.ReadLaws.{gates-in, outputs-in}
-use Rattle.netlist.specs.Check.{andsOf, gatesIn, outputsIn}
-use Rattle.netlist.specs.Meaning.{andCount}
-use Rattle.netlist.specs.Netlist as netlist
-use Rattle.netlist.specs.Netlist.{AllBelow, Downward, gateRecord}
-use Rattle.netlist.specs.Records.{fileRecords, recordOf}
-use Rattle.netlist.specs.declared.records.Operation.{Operation}
-use Rattle.netlist.specs.declared.records.Record.the-variants.{Gate, Malformed, Output}
-use Rattle.netlist.specs.declared.records.Record.{Record}
+use Rattle.netlist_model.proofs.LineLaws.{Line, line-ahead}
+use Rattle.netlist_model.proofs.ReadLaws.{gates-in, outputs-in}
+use Rattle.netlist_model.specs.Check.{andsOf, gatesIn, outputsIn}
+use Rattle.netlist_model.specs.Meaning.{andCount}
+use Rattle.netlist_model.specs.Netlist as netlist
+use Rattle.netlist_model.specs.Netlist.{AllBelow, Downward, gateRecord}
+use Rattle.netlist_model.specs.Records.{fileRecords, recordOf}
+use Rattle.netlist_model.specs.declared.Operation.{Operation}
+use Rattle.netlist_model.specs.declared.Record.the-variants.{Gate, Malformed, Output}
+use Rattle.netlist_model.specs.declared.Record.{Record}
 use Rattle.table.specs.Limits.{maxAnds}
 use Rattle.text.specs.Decimal.{written}
 use Rattle.text.specs.Split.{upTo}

@@ -10,9 +10,9 @@ ghost use Rattle.load_model.specs.Build.{askGates, buildFile, literalFor, liter
 ghost use Rattle.load_model.specs.Load.{maxVertices};
 ghost use Rattle.load_graph.specs.code.Slices.{Graph, buildOf};
 ghost use Rattle.load_file.specs.code.File.{GateLine, GatesAhead, GatesPassed, OutputLine, OutputsAhead, lineGates, netlistOf, trace};
-ghost use Rattle.netlist.specs.code.Accepted.{HoldsNetlist};
-ghost use Rattle.netlist.specs.Check.{outputsIn};
-ghost use Rattle.netlist.specs.Records.{fileRecords, recordOf};
+ghost use Rattle.netlist_model.specs.code.Accepted.{HoldsNetlist};
+ghost use Rattle.netlist_model.specs.Check.{outputsIn};
+ghost use Rattle.netlist_model.specs.Records.{fileRecords, recordOf};
 ghost use Rattle.table.specs.Limits.{maxAnds, maxInputs, maxOutputs};
 ghost use Rattle.text.specs.Decimal.{written};
 ghost use Rattle.text.specs.Split.{upTo};

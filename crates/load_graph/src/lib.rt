@@ -4,7 +4,7 @@ use aig::fold::Folded;
 use aig::literal::Literal;
 use aig::lookup::Found;
 use load_model::MAX_VERTICES;
-use netlist::records::Operation;
+use netlist_model::Operation;
 ghost use Prim.Native.Nat.{_*_, _+_, _<_, _≤_};
 ghost use Rattle.aig.specs.Lookup.{entered, withRow};
 ghost use Rattle.load_model.specs.Build.{askAnd, askGate, askXor, emptyBuild};

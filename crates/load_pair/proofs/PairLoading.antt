@@ -8,9 +8,9 @@ use Rattle.load_file.proofs.FileLoading.{inputs-few, outputs-few}
 use Rattle.load_pair.proofs.TableWords.{words-are}
 use Rattle.load_file.specs.code.File.{netlistOf}
 use Rattle.load_pair.specs.code.Pair.{Agreed, TableRoom, pairOf, wordsOf}
-use Rattle.netlist.specs.Meaning.{andCount}
-use Rattle.netlist.specs.Netlist.{Netlist}
-use Rattle.netlist.specs.declared.check.Summary.{Summary}
+use Rattle.netlist_model.specs.Meaning.{andCount}
+use Rattle.netlist_model.specs.Netlist.{Netlist}
+use Rattle.netlist_model.specs.declared.Summary.{Summary}
 use Rattle.table.specs.Limits.{maxAnds, maxOutputs}
 use Rattle.text.specs.Decimal.{written}
 use lib.ListN.{drop, length, take}

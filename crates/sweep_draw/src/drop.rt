@@ -1,5 +1,5 @@
 // A product that is too large, or short.
-use bdd::unique::give_back;
+use bdd_unique::give_back;
 use sweep_graph::stage::DROPPED;
 use sweep_graph::stage::set_stage;
 use sweep_state::task::Task;

@@ -1,7 +1,7 @@
 // The words that a sweep begins with.
-use crate::stage::OPENED;
-use crate::stage::set_stage;
 use aig_lookup::clear;
+use sweep_graph::stage::OPENED;
+use sweep_graph::stage::set_stage;
 ghost use Prim.Native.Nat.{_*_, _≤_};
 ghost use Rattle.aig.specs.Lookup.{cleared};
 ghost use Rattle.sweep_pick.specs.code.Begin.{begun};

@@ -1,8 +1,8 @@
 -- The row of an input.
 use Prim.Native.Nat.{_*_, _-_, _/_, _<_, _^_, _≤_, ℕ}
 use Rattle.bdd.proofs.DiagramLaws.{constant-reference}
-use Rattle.bdd.proofs.MakeLaws.{MakeAsked}
-use Rattle.bdd.specs.code.Unique.{MadeAt}
+use Rattle.bdd_unique.proofs.MakeLaws.{MakeAsked}
+use Rattle.bdd_unique.specs.code.Unique.{MadeAt}
 use Rattle.sweep_state.specs.code.Arrays.{Arrays}
 use Rattle.sweep_state.specs.declared.task.Task.{Task}
 use Rattle.sweep_start.specs.code.Inputs.{RowAsked, levelOf}

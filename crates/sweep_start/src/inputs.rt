@@ -1,6 +1,6 @@
 // Each input gets its row.
-use bdd::unique::Made;
-use bdd::unique::make;
+use bdd_unique::Made;
+use bdd_unique::make;
 use sweep_draw::draw::draw;
 use sweep_state::task::Task;
 ghost use Rattle.sweep_start.specs.code.Given.{GivesRows, HasInputContext};

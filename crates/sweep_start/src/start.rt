@@ -1,8 +1,7 @@
 // The start of a sweep: up to the first turn.
 use crate::inputs::Inputs;
 use crate::inputs::give_rows;
-use bdd::unique::clear;
-use sweep_look::look::look;
+use bdd_unique::clear;
 use sweep_model::Cause;
 use sweep_normalise::normalise::normalise;
 use sweep_pick::begin::begin;
@@ -50,7 +49,7 @@ fn give_inputs(
     let inputs = give_rows(diagrams, stages, rows, marks, task, 0);
     match inputs {
         Inputs::All(used) => {
-            let seen = sweep_parts::look::look(pairs, &diagrams[..], &stages[..], task);
+            let seen = sweep_look::look::look(pairs, &diagrams[..], &stages[..], task);
             after_look(seen, used, 0)
         }
         Inputs::Short(v, used) => Going::Ended {
@@ -75,7 +74,7 @@ pub fn start(
     ensures { λ r. ⌜ Starts task (workspaces pairs diagrams stages rows marks .entry) (workspaces pairs diagrams stages rows marks .exit) r ⌝ }
 {
     prepare(pairs, look, diagrams, stages, rows, marks, task);
-    let seen = sweep_parts::look::look(&pairs[..], &diagrams[..], &stages[..], task);
+    let seen = sweep_look::look::look(&pairs[..], &diagrams[..], &stages[..], task);
     match seen {
         Seen::Nothing => give_inputs(&pairs[..], diagrams, stages, rows, marks, task),
         Seen::Decided(end) => Going::Ended {

@@ -3,7 +3,6 @@ use crate::settle::settle;
 use product::Product;
 use sweep_draw::drop::break_off;
 use sweep_draw::operands::take_product;
-use sweep_look::look::look;
 use sweep_state::end::Seen;
 use sweep_state::task::Task;
 ghost use Prim.Native.Nat.{_*_, _≤_};
@@ -62,7 +61,7 @@ fn conclude(
         used,
         kept,
     );
-    let seen = sweep_parts::look::look(&pairs[..], &diagrams[..], &stages[..], task);
+    let seen = sweep_look::look::look(&pairs[..], &diagrams[..], &stages[..], task);
     Step::Looked {
         seen,
         used: left,

@@ -1,6 +1,6 @@
 // A product that is done.
 use crate::meet::meet;
-use bdd::size::size;
+use bdd_size::size;
 use sweep_draw::drop::drop_vertex;
 use sweep_state::task::Task;
 ghost use Prim.Native.Nat.{_*_, _≤_};

@@ -3,7 +3,7 @@
 use Rattle.compare_model.specs.Compare.{saidBy}
 use Rattle.compare_reply.proofs.reply_of.Statement.{statement}
 use Rattle.compare_reply.proofs.reply_of.Tie as tie
-use Rattle.sweep_parts.specs.code.Ending.{verdictOf}
+use Rattle.sweep_state.specs.code.Ending.{verdictOf}
 use borrow.Author.Needs.{needs}
 use mathlib.Core.Path.{refl}
 

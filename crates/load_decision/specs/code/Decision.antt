@@ -3,11 +3,11 @@ use Prim.Native.Nat.{_+_, ℕ}
 use Rattle.load_model.specs.Load.{LoadRoom, lengthTests, pairTests}
 use Rattle.load_decision.specs.declared.Decision.the-variants.{Go, Refused}
 use Rattle.load_decision.specs.declared.Decision.{Decision}
-use Rattle.netlist.specs.Check.{Answer, accepted, checkFile, refused, summaryCounts}
-use Rattle.netlist.specs.declared.check.Checked.the-variants as checked
-use Rattle.netlist.specs.declared.check.Checked.the-variants.{Accepted}
-use Rattle.netlist.specs.declared.check.Checked.{Checked}
-use Rattle.netlist.specs.declared.check.Summary.{Summary}
+use Rattle.netlist_model.specs.Check.{Answer, accepted, checkFile, refused, summaryCounts}
+use Rattle.netlist_model.specs.declared.Checked.the-variants as checked
+use Rattle.netlist_model.specs.declared.Checked.the-variants.{Accepted}
+use Rattle.netlist_model.specs.declared.Checked.{Checked}
+use Rattle.netlist_model.specs.declared.Summary.{Summary}
 use Rattle.table.specs.Refusals.{firstRefusal}
 use Rattle.text.specs.Split.{upTo}
 use lib.ListN.{length}

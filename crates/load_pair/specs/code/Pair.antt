@@ -3,8 +3,8 @@ use Prim.Native.Nat.{_*_, _+_, _-_, _≤_, ℕ}
 use Rattle.load_model.specs.Build.{PairBuilt, buildPair}
 use Rattle.load_model.specs.Load.{maxVertices}
 use Rattle.load_file.specs.code.File.{netlistOf}
-use Rattle.netlist.specs.code.Accepted.{HoldsNetlist}
-use Rattle.netlist.specs.declared.check.Summary.{Summary}
+use Rattle.netlist_model.specs.code.Accepted.{HoldsNetlist}
+use Rattle.netlist_model.specs.declared.Summary.{Summary}
 use Rattle.table.specs.Limits.{maxAnds, maxOutputs}
 use Rattle.text.specs.Decimal.{written}
 use lib.ListN.{drop, take}

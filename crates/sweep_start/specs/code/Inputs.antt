@@ -2,7 +2,7 @@
 use Prim.Native.Nat.{_*_, _+_, _-_, _<_, _≤_, ℕ}
 use Rattle.bdd.specs.code.Rows.{MARK, RADIX}
 use Rattle.bdd.specs.code.Store.{Store}
-use Rattle.bdd.specs.code.Unique.{MadeAt, MadeFull}
+use Rattle.bdd_unique.specs.code.Unique.{MadeAt, MadeFull}
 use Rattle.sweep_state.specs.code.Arrays.{Arrays, arrays, drawnAt, onRows}
 use Rattle.sweep_state.specs.declared.task.Task.{Task}
 use Rattle.sweep_start.specs.declared.inputs.Given.the-variants.{Full, Row}
