@@ -1,6 +1,8 @@
 // Whether two files are loaded: every refusal, decided over the files and the lengths of the lent slices.
 use load_model::MAX_TABLE;
 use load_model::WORKING_ROOM;
+use netlist::Checked;
+use netlist::Summary;
 use netlist::check;
 ghost use Rattle.load_model.specs.Load.{shortSlice?};
 ghost use Rattle.load_decision.specs.code.Decision.{decision, pairDecision, readDecision};
