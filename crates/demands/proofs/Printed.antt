@@ -18,9 +18,9 @@ use Rattle.netlist_model.specs.Check.{readNetlist}
 use Rattle.netlist_model.specs.Limits.{edition}
 use Rattle.netlist_model.specs.Netlist.{Netlist}
 use Rattle.reply_line.specs.Line.{lineFor}
-use Rattle.report.specs.Report.{headLine, refusedLine, replyLine}
-use Rattle.report.specs.declared.fields.Vertex.the-variants.{None}
-use Rattle.report.specs.declared.fields.Word.the-variants as word
+use Rattle.report_format.specs.Report.{headLine, refusedLine, replyLine}
+use Rattle.report_format.specs.declared.Vertex.the-variants.{None}
+use Rattle.report_format.specs.declared.Word.the-variants as word
 use Rattle.report_model.proofs.ComparisonLaws.{after-next}
 use Rattle.report_model.proofs.ReportLaws.{long-enough, report-loaded}
 use Rattle.report_model.proofs.RoomLaws.{Roomy, never-refused, outputs-next, roomy-next}

@@ -11,9 +11,9 @@ use Rattle.netlist_model.specs.Check.{read, readNetlist}
 use Rattle.netlist_model.specs.Limits.{edition}
 use Rattle.netlist_model.specs.Netlist.{Netlist}
 use Rattle.reply_line.specs.Line.{lineFor}
-use Rattle.report.specs.Report.{headLine, refusedLine, replyLine}
-use Rattle.report.specs.declared.fields.Vertex.the-variants.{None}
-use Rattle.report.specs.declared.fields.Word.the-variants.{Different, Equal}
+use Rattle.report_format.specs.Report.{headLine, refusedLine, replyLine}
+use Rattle.report_format.specs.declared.Vertex.the-variants.{None}
+use Rattle.report_format.specs.declared.Word.the-variants.{Different, Equal}
 use Rattle.report_model.specs.Report.{Lent, Report, loadRoom, programLimits, reportOf, short?}
 use Rattle.sweep_model.specs.declared.Cause.{Cause}
 use Rattle.table.specs.Table.{inputsOf}

@@ -1,6 +1,4 @@
 // Whether two files are loaded: every refusal, decided over the files and the lengths of the lent slices.
-use load_model::MAX_TABLE;
-use load_model::WORKING_ROOM;
 use netlist::Checked;
 use netlist::Summary;
 use netlist::check;
@@ -91,7 +89,7 @@ fn decide_pair(
     if (table::MAX_ANDS as usize) < left.ands as usize + right.ands as usize {
         return refused(8, 0, 0);
     }
-    if table < MAX_TABLE {
+    if table < load_model::MAX_TABLE {
         return refused(9, 0, 0);
     }
     if is_short(pairs, look, literals, outputs) {
@@ -104,14 +102,14 @@ fn decide_pair(
 fn is_short(pairs: usize, look: usize, literals: usize, outputs: usize) -> bool
     ensures { λ r. ⌜ r ≡ shortSlice? (roomOf 0 pairs look literals outputs) ⌝ }
 {
-    if pairs < WORKING_ROOM {
+    if pairs < load_model::WORKING_ROOM {
         return true;
     }
-    if look < WORKING_ROOM {
+    if look < load_model::WORKING_ROOM {
         return true;
     }
-    if literals < WORKING_ROOM {
+    if literals < load_model::WORKING_ROOM {
         return true;
     }
-    outputs < WORKING_ROOM
+    outputs < load_model::WORKING_ROOM
 }

@@ -4,7 +4,7 @@ use Rattle.compare_model.specs.Said.{undecidedBy}
 use Rattle.netlist_model.specs.Limits.{edition}
 use Rattle.reply_line.specs.code.Cause.{causeVertex, causeWord}
 use Rattle.reply_line.specs.Line.{lineFor, roomFor}
-use Rattle.report.specs.Report.{LINE-ROOM, replyLine}
+use Rattle.report_format.specs.Report.{LINE-ROOM, replyLine}
 use Rattle.sweep_model.specs.declared.Cause.the-variants.{Idle, Rows, Size, Steps}
 use Rattle.sweep_model.specs.declared.Cause.{Cause}
 use mathlib.Core.List.{List, []}

@@ -2,9 +2,9 @@
 use Prim.Native.Nat.{_+_, ℕ}
 use Rattle.compare_model.specs.Said.{Said}
 use Rattle.netlist_model.specs.Limits.{edition}
-use Rattle.report.specs.Report.{LINE-ROOM, refusedLine, replyLine}
-use Rattle.report.specs.declared.fields.Vertex.the-variants.{At, None}
-use Rattle.report.specs.declared.fields.Word.the-variants as word
+use Rattle.report_format.specs.Report.{LINE-ROOM, refusedLine, replyLine}
+use Rattle.report_format.specs.declared.Vertex.the-variants.{At, None}
+use Rattle.report_format.specs.declared.Word.the-variants as word
 use lib.ListN.{length}
 use mathlib.Core.List.{List, []}
 

@@ -1,12 +1,12 @@
 // The line of a reply, as bytes.
-use report::Vertex;
-use report::Word;
+use report_format::Vertex;
+use report_format::Word;
 use sweep_model::Cause;
 use sweep_model::Reply;
 ghost use Rattle.compare_model.specs.Said.{saidOf};
 ghost use Rattle.reply_line.specs.code.Cause.{causeVertex, causeWord};
 ghost use Rattle.reply_line.specs.Line.{lineFor, roomFor};
-ghost use Rattle.report.specs.Report.{Printed};
+ghost use Rattle.report_format.specs.Report.{Printed};
 ghost use mathlib.Core.Path.{_≡_};
 
 // Puts the line of a reply on an output at the front of `out` and gives back its length. The setting is that of a Different.

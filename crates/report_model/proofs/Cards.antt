@@ -9,7 +9,7 @@ use Rattle.netlist_model.specs.Check.{below?, checkFile, checkFrom, due?, dueAf
 use Rattle.netlist_model.specs.Meaning.{andCount}
 use Rattle.netlist_model.specs.Records.{fieldsRecord, fileRecords, operationOf, recordOf, recordsOf, unended}
 use Rattle.product_model.specs.Run.{_andThen_, addPart, addRow, countStep, plain, run}
-use Rattle.report.specs.Report.{headLine, refusedLine, replyLine}
+use Rattle.report_format.specs.Report.{headLine, refusedLine, replyLine}
 use Rattle.report_model.specs.Cards.{Cards}
 use Rattle.report_model.specs.Report.{after, comparisonLine, comparisons, linesOf, next, reportOf, reported, shortRoom?}
 use Rattle.sweep_model.specs.Normalise.{foldedRow, foundRow, normalise, normaliseFrom, normaliseRow, resolve, takeAt, takesFrom, wake, wakeAt}

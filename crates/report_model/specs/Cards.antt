@@ -3,9 +3,9 @@ use Prim.Native.Nat.{_*_, ℕ}
 use Rattle.load_model.specs.Cards.{andFile, withOneGate}
 use Rattle.load_model.specs.Load.{maxTable, maxVertices}
 use Rattle.netlist_model.specs.Limits.{edition}
-use Rattle.report.specs.Report.{headLine, refusedLine, replyLine}
-use Rattle.report.specs.declared.fields.Vertex.the-variants.{None}
-use Rattle.report.specs.declared.fields.Word.the-variants.{Different, Equal}
+use Rattle.report_format.specs.Report.{headLine, refusedLine, replyLine}
+use Rattle.report_format.specs.declared.Vertex.the-variants.{None}
+use Rattle.report_format.specs.declared.Word.the-variants.{Different, Equal}
 use Rattle.report_model.specs.Report.{Lent, reportOf, reportRoom, rowLimit}
 use Rattle.table.specs.Limits.{maxInputs}
 use lib.ListN.{replicate, take}

@@ -4,7 +4,7 @@ use Rattle.compare_model.specs.Compare.{CompareRoom, Given, compared, overFront
 use Rattle.load_model.specs.Load.{Answer, LoadRoom, accepted, loadResult, maxVertices, refused, tableAfter}
 use Rattle.netlist_model.specs.Check.{readNetlist}
 use Rattle.reply_line.specs.Line.{lineFor}
-use Rattle.report.specs.Report.{LINE-ROOM, headLine, refusedLine}
+use Rattle.report_format.specs.Report.{LINE-ROOM, headLine, refusedLine}
 use Rattle.sweep_model.specs.State.{Limits}
 use Rattle.table.specs.Limits.{maxInputs, maxOutputs}
 use Rattle.table.specs.Table.{inputsOf, outputsOf}

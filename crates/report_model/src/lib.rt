@@ -8,10 +8,10 @@ pub const ROW_LIMIT: u32 = 4096;
 pub const STEP_LIMIT: u64 = 1000000;
 
 // The most bytes of a line of a reply: its setting has a byte for each input.
-pub const REPLY_ROOM: usize = report::LINE_ROOM + table::MAX_INPUTS as usize;
+pub const REPLY_ROOM: usize = report_format::LINE_ROOM + table::MAX_INPUTS as usize;
 
 // The most bytes of a report: the head line and a line for each output.
-pub const REPORT_ROOM: usize = report::LINE_ROOM + table::MAX_OUTPUTS as usize * REPLY_ROOM;
+pub const REPORT_ROOM: usize = report_format::LINE_ROOM + table::MAX_OUTPUTS as usize * REPLY_ROOM;
 
 // The words of the rows that a comparison with the program's row limit works in.
 pub const ROWS_ROOM: usize = 4 * ROW_LIMIT as usize;

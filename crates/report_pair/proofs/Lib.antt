@@ -1,4 +1,1 @@
-pub mod ComparedLaws
-pub mod PartLaws
-pub mod PrintingLaws
 pub mod ReportLaws

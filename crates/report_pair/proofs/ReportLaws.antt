@@ -6,12 +6,11 @@ use Rattle.load_model.specs.Lent.{Kept, Working}
 use Rattle.load_model.specs.Load.{Answer, LoadRoom, accepted, loadResult, refused, tableAfter}
 use Rattle.load_model.specs.declared.Tally.{Tally}
 use Rattle.netlist_model.specs.Check.{readNetlist}
-use Rattle.report.proofs.StoredLaws.{stored-next}
-use Rattle.report.specs.Report.{LINE-ROOM, Printed, StoredWithin, headLine, lineLength, linePut, refusedLine}
+use Rattle.report_format.specs.Report.{LINE-ROOM, Printed, StoredWithin, headLine, lineLength, linePut, refusedLine}
 use Rattle.report_model.proofs.ReportLaws.{loaded-accepted, report-loaded}
 use Rattle.report_model.specs.Report.{Lent, after, comparisons, firstOf, linesOf, loadRoom, replyRoom, reportOf, reportRoom, reported, short?}
 use Rattle.report_pair.specs.Lent.{Front, reportLeft}
-use Rattle.report_pair.specs.code.Slices.{Ready}
+use Rattle.report_output.specs.code.Slices.{Ready}
 use Rattle.table.specs.Limits.{maxInputs, maxOutputs}
 use Rattle.table.specs.Table.{outputsOf}
 use Rattle.text.specs.Decimal.{Stored, written}
@@ -22,21 +21,6 @@ use mathlib.Core.Bool.{false}
 use mathlib.Core.List.{List, _++_}
 use mathlib.Core.Path.{_∙_, _≡_, ap, ap₂, refl, sym}
 use native.Mathlib.Omega.{arith}
-
--- The head line put at the front of a slice is stored there.
-pub head-stored : {old new : List ℕ} {n : ℕ} → reportRoom ≤ length old → Printed LINE-ROOM headLine old new n → StoredWithin old 0 LINE-ROOM headLine new n
-unfolding linePut lineLength written headLine
-head-stored {old} h p =
-    let test = le-ltb (length old) LINE-ROOM (omega arith) in
-    record { stored = record { place = rw test at (p .count); list = rw test at (p .list) }; short = omega arith }
-
--- The lines are stored after it.
-pub head-and-lines : {old mid lines new : List ℕ} {start end : ℕ} (outputs : ℕ) → reportRoom ≤ length old → outputs ≤ maxOutputs
-    → StoredWithin old 0 LINE-ROOM headLine mid start → StoredWithin mid start (outputs * replyRoom) lines new end
-    → StoredWithin old 0 reportRoom (headLine ++ lines) new end
-head-and-lines outputs room bound head lines =
-    let both = stored-next (outputs * replyRoom) (omega arith) head (λ h. lines) in
-    record { stored = both .stored; short = omega (arith, both .short) }
 
 -- What is stored at the front of a slice is within it.
 pub front-stored : {old bytes new : List ℕ} {count : ℕ} → reportRoom ≤ length old → length new ≡ length old → StoredWithin old 0 reportRoom bytes new count → Front count new

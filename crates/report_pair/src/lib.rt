@@ -1,14 +1,7 @@
 // The program's call: two files, and the report on them as bytes.
-mod lines;
-
-use crate::lines::report_table;
 use load::Loaded;
-use report_model::REPORT_ROOM;
-use report_model::ROWS_ROOM;
 ghost use Rattle.comparer.specs.Lent.{slices};
-ghost use Rattle.report_model.specs.Report.{shortRoom?};
 ghost use Rattle.report_pair.specs.Lent.{Front, Reported};
-ghost use mathlib.Core.Path.{_≡_};
 
 // Puts the report on two files at the front of `out` and gives back its length: the line of a refused load, or the head line and a line
 // for each output. Where `out`, the rows, the marks or the setting is too short for some pair of files, no slice is changed, and the length is 0.
@@ -29,13 +22,13 @@ pub fn report_pair(
     ensures { λ r. ⌜ Reported (now (left .entry)) (now (right .entry)) out (slices table pairs look diagrams stages rows marks setting) r ⌝ }
     ensures { λ r. ⌜ Front r (now (out .exit)) ⌝ }
 {
-    if is_short(out.len(), rows.len(), marks.len(), setting.len()) {
+    if report_parts::is_short(out.len(), rows.len(), marks.len(), setting.len()) {
         return 0;
     }
     let loaded = load::load(left, right, table, pairs, look, diagrams, stages);
     match loaded {
         Loaded::Refused { number, file, line } => report::write_refused(out, number, file, line),
-        Loaded::Accepted(_) => report_table(
+        Loaded::Accepted(_) => report_lines::report_table(
             out,
             table,
             pairs,
@@ -47,19 +40,4 @@ pub fn report_pair(
             setting,
         ),
     }
-}
-
-fn is_short(out: usize, rows: usize, marks: usize, setting: usize) -> bool
-    ensures { λ r. ⌜ r ≡ shortRoom? out rows marks setting ⌝ }
-{
-    if out < REPORT_ROOM {
-        return true;
-    }
-    if rows < ROWS_ROOM {
-        return true;
-    }
-    if marks < load::MAX_VERTICES {
-        return true;
-    }
-    setting < table::MAX_INPUTS as usize
 }

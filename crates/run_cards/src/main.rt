@@ -168,7 +168,7 @@ fn limits_of(card: &[u8]) -> Limits {
 
 // Whether `line` is the line of a reply, without its setting.
 fn is_line(line: &[u8], output: u32, reply: Reply) -> bool {
-    let mut came = [0u8; report::LINE_ROOM];
+    let mut came = [0u8; report_format::LINE_ROOM];
     let end = reply_line::write_line(&mut came, output, reply, b"");
     text::same(line, &came[..end])
 }

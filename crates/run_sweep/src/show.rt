@@ -16,7 +16,7 @@ ghost use Rattle.sweep_state.specs.code.Ending.{Refers};
 ghost use lib.ListN.{length};
 ghost use mathlib.Core.Path.{_≡_};
 
-const LINE_ROOM: usize = report::LINE_ROOM + MAX_INPUTS;
+const LINE_ROOM: usize = report_format::LINE_ROOM + MAX_INPUTS;
 
 // The reply's line without its end.
 pub fn show_reply(list: u32, ended: Ended, rows: &[u32], task: Task)

@@ -14,12 +14,12 @@ fn is_malformed(words: &[u32]) -> bool
     if words.len() < HEADER {
         return true;
     }
-    if table::beyond_limits(words[0], words[1], words[2]) {
+    let made = words[1];
+    let outputs = words[2];
+    if table::beyond_limits(words[0], made, outputs) {
         return true;
     }
-    let made = words[1] as usize;
-    let outputs = words[2] as usize;
-    words.len() < HEADER + 2 * made + 2 * outputs
+    words.len() < HEADER + 2 * made as usize + 2 * outputs as usize
 }
 
 fn row_below(words: &[u32], at: usize, bound: u32) -> bool
@@ -64,14 +64,16 @@ fn is_out_of_order(words: &[u32]) -> bool
     requires { ⌜ WellFormed (now words) ⌝ }
     ensures { λ r. ⌜ r ≡ outOfOrder? (now (words .entry)) ⌝ }
 {
-    let made = words[1] as usize;
+    let inputs = words[0];
+    let rows = words[1];
+    let made = rows as usize;
     let outputs = words[2] as usize;
-    if !is_downward(words, 1 + words[0], made) {
+    if !is_downward(words, 1 + inputs, made) {
         return true;
     }
     let from = HEADER + 2 * made;
     let end = from + 2 * outputs;
-    !all_below(&words[from..end], 2 * (1 + words[0] + words[1]))
+    !all_below(&words[from..end], 2 * (1 + inputs + rows))
 }
 
 // The first of the refusals 10 and 11 that applies to some words, or 0.

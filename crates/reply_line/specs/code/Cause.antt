@@ -1,8 +1,8 @@
 -- The word and the vertex of an Undecided, by its cause.
-use Rattle.report.specs.declared.fields.Vertex.the-variants.{At, None}
-use Rattle.report.specs.declared.fields.Vertex.{Vertex}
-use Rattle.report.specs.declared.fields.Word.the-variants as word
-use Rattle.report.specs.declared.fields.Word.{Word}
+use Rattle.report_format.specs.declared.Vertex.the-variants.{At, None}
+use Rattle.report_format.specs.declared.Vertex.{Vertex}
+use Rattle.report_format.specs.declared.Word.the-variants as word
+use Rattle.report_format.specs.declared.Word.{Word}
 use Rattle.sweep_model.specs.declared.Cause.the-variants.{Idle, Rows, Size, Steps}
 use Rattle.sweep_model.specs.declared.Cause.{Cause}
 

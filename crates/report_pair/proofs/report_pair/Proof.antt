@@ -5,7 +5,7 @@ use Rattle.comparer.specs.Lent.{holding}
 use Rattle.load_model.specs.Load.{answerOf}
 use Rattle.report_model.proofs.ReportLaws.{long-enough, report-short, works-accepted}
 use Rattle.report_model.specs.Report.{Lent, loadRoom, programLimits, short?}
-use Rattle.report_pair.proofs.ComparedLaws.{same-room}
+use Rattle.report_output.proofs.ComparedLaws.{same-room}
 use Rattle.report_pair.proofs.ReportLaws.{accepted-report, front-stored, refused-report, refused-unchanged, table-ready}
 use Rattle.report_pair.proofs.report_pair.Statement.{statement}
 use Rattle.report_pair.proofs.report_pair.Tie as tie
@@ -57,22 +57,22 @@ report-table-requires c κs =
     (table-ready (a .left .now) (a .right .now) (loadRoom l) (answerOf (load .result)) _ (load .ensures .0) (ap answerOf (matched .enum-told .given .1)) (load .last .1 .1 .0) (a .table .now) (load .ensures .1 .0) (bounds .setting), bounds .out)
 
 same-length : tie.Need-same-length
-same-length c = search needs
+same-length c = c .before .out .given
 
 same-length-2 : tie.Need-same-length-2
-same-length-2 c = search needs
+same-length-2 c = c .before .before .before .before .before .before .before .before .before .before .before .before .before .before .before .before .table .given
 
 same-length-3 : tie.Need-same-length-3
-same-length-3 c = search needs
+same-length-3 c = c .before .before .before .before .before .before .before .before .before .before .before .before .before .before .pairs .given
 
 same-length-4 : tie.Need-same-length-4
-same-length-4 c = search needs
+same-length-4 c = c .before .before .before .before .before .before .before .before .before .before .before .before .look .given
 
 same-length-5 : tie.Need-same-length-5
-same-length-5 c = search needs
+same-length-5 c = c .before .before .before .before .before .before .before .before .before .before .diagrams .given
 
 same-length-6 : tie.Need-same-length-6
-same-length-6 c = search needs
+same-length-6 c = c .before .before .before .before .before .before .before .before .stages .given
 
 returns-2 : tie.Need-returns-2
 returns-2 c =
@@ -96,31 +96,41 @@ returns-2 c =
     )
 
 same-length-7 : tie.Need-same-length-7
-same-length-7 c = search needs
+same-length-7 c = c .before .before .before .before .before .before .before .before .before .before .before .before .before .before .before .before .before .out2 .given
 
 same-length-8 : tie.Need-same-length-8
-same-length-8 c = search needs
+same-length-8 c =
+    let table = c .before .before .before .before .before .before .before .before .before .before .before .before .before .before .before in
+    table .table2 .given ∙ table .before .before .before .before .before .before .before .before .before .before .before .before .before .before .before .before .before .before .before .before .before .before .before .before .table .given
 
 same-length-9 : tie.Need-same-length-9
-same-length-9 c = search needs
+same-length-9 c =
+    let pairs = c .before .before .before .before .before .before .before .before .before .before .before .before .before in
+    pairs .pairs2 .given ∙ pairs .before .before .before .before .before .before .before .before .before .before .before .before .before .before .before .before .before .before .before .before .before .before .before .before .pairs .given
 
 same-length-10 : tie.Need-same-length-10
-same-length-10 c = search needs
+same-length-10 c =
+    let look = c .before .before .before .before .before .before .before .before .before .before .before in
+    look .look2 .given ∙ look .before .before .before .before .before .before .before .before .before .before .before .before .before .before .before .before .before .before .before .before .before .before .before .before .look .given
 
 same-length-11 : tie.Need-same-length-11
-same-length-11 c = search needs
+same-length-11 c =
+    let diagrams = c .before .before .before .before .before .before .before .before .before in
+    diagrams .diagrams2 .given ∙ diagrams .before .before .before .before .before .before .before .before .before .before .before .before .before .before .before .before .before .before .before .before .before .before .before .before .diagrams .given
 
 same-length-12 : tie.Need-same-length-12
-same-length-12 c = search needs
+same-length-12 c =
+    let stages = c .before .before .before .before .before .before .before in
+    stages .stages2 .given ∙ stages .before .before .before .before .before .before .before .before .before .before .before .before .before .before .before .before .before .before .before .before .before .before .before .before .stages .given
 
 same-length-13 : tie.Need-same-length-13
-same-length-13 c = search needs
+same-length-13 c = c .before .before .before .before .before .rows .given
 
 same-length-14 : tie.Need-same-length-14
-same-length-14 c = search needs
+same-length-14 c = c .before .before .before .marks .given
 
 same-length-15 : tie.Need-same-length-15
-same-length-15 c = search needs
+same-length-15 c = c .before .setting .given
 
 returns-3 : tie.Need-returns-3
 returns-3 c =

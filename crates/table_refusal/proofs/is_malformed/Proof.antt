@@ -11,14 +11,14 @@ returns : tie.Need-returns
 unfolding malformed?
 returns c = rw (lt-ltb _ _ (c .if1 .taken))
 
+shared-slice-read-made : tie.Need-shared-slice-read-made
+shared-slice-read-made c = search needs
+
+shared-slice-read-outputs : tie.Need-shared-slice-read-outputs
+shared-slice-read-outputs c = search needs
+
 shared-slice-read-beyond-limits : tie.Need-shared-slice-read-beyond-limits
 shared-slice-read-beyond-limits c = search needs
-
-shared-slice-read-beyond-limits-2 : tie.Need-shared-slice-read-beyond-limits-2
-shared-slice-read-beyond-limits-2 c = search needs
-
-shared-slice-read-beyond-limits-3 : tie.Need-shared-slice-read-beyond-limits-3
-shared-slice-read-beyond-limits-3 c = search needs
 
 beyond-limits-requires : tie.Need-beyond-limits-requires
 beyond-limits-requires c κs = search needs
@@ -27,51 +27,42 @@ returns-2 : tie.Need-returns-2
 unfolding malformed?
 returns-2 c = rw (le-ltb _ _ (c .before .before .before .before .before .if1 .left), sym (c .before .beyond-limits .ensures) ∙ c .if2 .taken)
 
-shared-slice-read-made : tie.Need-shared-slice-read-made
-shared-slice-read-made c = search needs
-
-cast-made : tie.Need-cast-made
-cast-made c = omega (arith, c .shared-slice-known5 .given 1)
-
-shared-slice-read-outputs : tie.Need-shared-slice-read-outputs
-shared-slice-read-outputs c = search needs
-
-cast-outputs : tie.Need-cast-outputs
-cast-outputs c = omega (arith, c .shared-slice-known6 .given 2)
+cast-result : tie.Need-cast-result
+cast-result c = omega (arith, c .before .before .shared-slice-known4 .given 1)
 
 mul-result : tie.Need-mul-result
-mul-result c = omega (arith, c .shared-slice-known6 .given 1)
+mul-result c = omega (arith, c .before .before .shared-slice-known4 .given 1)
 
 add-result : tie.Need-add-result
-add-result c = omega (arith, c .shared-slice-known6 .given 1)
+add-result c = omega (arith, c .before .before .shared-slice-known4 .given 1)
+
+cast-result-2 : tie.Need-cast-result-2
+cast-result-2 c = omega (arith, c .before .before .shared-slice-known4 .given 2)
 
 mul-result-2 : tie.Need-mul-result-2
-mul-result-2 c = omega (arith, c .shared-slice-known6 .given 2)
+mul-result-2 c = omega (arith, c .before .before .shared-slice-known4 .given 2)
 
 add-result-2 : tie.Need-add-result-2
-add-result-2 c = omega (arith, c .shared-slice-known6 .given 1, c .shared-slice-known6 .given 2)
+add-result-2 c = omega (arith, c .before .before .shared-slice-known4 .given 1, c .before .before .shared-slice-known4 .given 2)
 
 returns-3 : tie.Need-returns-3
 unfolding malformed?
-returns-3 c =
-    rw (le-ltb _ _ (c .before .before .before .before .before .before .before .if1 .left), sym (c .before .before .before .beyond-limits .ensures) ∙ c .before .before .if2 .left)
+returns-3 c = rw (le-ltb _ _ (c .before .before .before .before .before .if1 .left), sym (c .before .beyond-limits .ensures) ∙ c .if2 .left)
 
 pub is-malformed-spec : {M : Type 1} → statement M
 is-malformed-spec =
     tie.close
     (tie.spec
     returns
+    shared-slice-read-made
+    shared-slice-read-outputs
     shared-slice-read-beyond-limits
-    shared-slice-read-beyond-limits-2
-    shared-slice-read-beyond-limits-3
     beyond-limits-requires
     returns-2
-    shared-slice-read-made
-    cast-made
-    shared-slice-read-outputs
-    cast-outputs
+    cast-result
     mul-result
     add-result
+    cast-result-2
     mul-result-2
     add-result-2
     returns-3)

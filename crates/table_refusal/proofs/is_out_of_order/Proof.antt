@@ -8,8 +8,11 @@ use borrow.Author.Tests.{not-false, not-true}
 use mathlib.Core.Path.{_≡_, refl}
 use native.Mathlib.Omega.{arith}
 
-shared-slice-read-made : tie.Need-shared-slice-read-made
-shared-slice-read-made c = search needs
+shared-slice-read-inputs : tie.Need-shared-slice-read-inputs
+shared-slice-read-inputs c = search needs
+
+shared-slice-read-rows : tie.Need-shared-slice-read-rows
+shared-slice-read-rows c = search needs
 
 cast-made : tie.Need-cast-made
 cast-made c = search needs
@@ -19,9 +22,6 @@ shared-slice-read-outputs c = search needs
 
 cast-outputs : tie.Need-cast-outputs
 cast-outputs c = search needs
-
-shared-slice-read-is-downward : tie.Need-shared-slice-read-is-downward
-shared-slice-read-is-downward c = search needs
 
 add-is-downward : tie.Need-add-is-downward
 add-is-downward c = search needs
@@ -59,14 +59,8 @@ part-all-below-start c = search needs
 part-all-below-end : tie.Need-part-all-below-end
 part-all-below-end c = search needs
 
-shared-slice-read-all-below : tie.Need-shared-slice-read-all-below
-shared-slice-read-all-below c = search needs
-
 add-all-below : tie.Need-add-all-below
 add-all-below c = search needs
-
-shared-slice-read-all-below-2 : tie.Need-shared-slice-read-all-below-2
-shared-slice-read-all-below-2 c = search needs
 
 add-all-below-2 : tie.Need-add-all-below-2
 add-all-below-2 c = search needs
@@ -80,7 +74,7 @@ all-below-requires c κs = search needs
 returns-2 : tie.Need-returns-2
 unfolding outOfOrder? outputWords rowsOf
 returns-2 c =
-    let at-rows = c .before .before .before .before in
+    let at-rows = c .before .before in
     let rows = at-rows .before .is-downward in
     let ws = at-rows .before .before .before .before .before .before .args .words .now in
     let part : 3 + 2 * madeOf ws + 2 * outputsOf ws - (3 + 2 * madeOf ws) ≡ 2 * outputsOf ws = omega arith in
@@ -90,11 +84,11 @@ pub is-out-of-order-spec : {M : Type 1} → statement M
 is-out-of-order-spec =
     tie.close
     (tie.spec
-    shared-slice-read-made
+    shared-slice-read-inputs
+    shared-slice-read-rows
     cast-made
     shared-slice-read-outputs
     cast-outputs
-    shared-slice-read-is-downward
     add-is-downward
     is-downward-requires
     returns
@@ -106,9 +100,7 @@ is-out-of-order-spec =
     sub-all-below
     part-all-below-start
     part-all-below-end
-    shared-slice-read-all-below
     add-all-below
-    shared-slice-read-all-below-2
     add-all-below-2
     mul-all-below-2
     all-below-requires
