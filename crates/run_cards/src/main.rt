@@ -1,16 +1,15 @@
 // The bench cards of `cards.txt` run: a line for each, `ok` or what is not as the card says, and how many passed.
 // The file's layout stands in tools/cards.py, which writes it.
-use compare_model::Limits;
+use comparer::Limits;
+use comparer::Reply;
 use libc::STDOUT_FILENO;
-use load_model::Loaded;
+use load::Loaded;
+use load::WORKING_ROOM;
 use run_card_file::field;
 use run_card_file::number;
 use run_card_file::number_at;
 use run_card_file::number_count;
-use sweep_model::Reply;
 ghost use Prim.Native.Nat.{_≤_};
-
-const WORKING_ROOM: usize = 2 * load::MAX_VERTICES;
 
 // Four words a row of the highest row limit.
 const ROWS_ROOM: usize = 4 * 32768;

@@ -11,8 +11,6 @@ use run_card_file::number;
 use run_card_file::number_at;
 use run_card_file::number_count;
 ghost use Prim.Native.Nat.{_≤_};
-ghost use lib.ListN.{length};
-ghost use mathlib.Core.Path.{_≡_};
 
 // The words of the largest table are 12,419, and its vertices 6,209: one more of each.
 const TABLE_ROOM: usize = 12420;
@@ -35,6 +33,18 @@ const MARK_BEFORE: u8 = 9;
 
 const SETTING_BEFORE: u8 = b'-';
 
+// Where the slices lent end.
+struct Ends {
+    table: usize,
+    pairs: usize,
+    look: usize,
+    diagrams: usize,
+    stages: usize,
+    rows: usize,
+    marks: usize,
+    setting: usize,
+}
+
 fn main() {
     let mut bytes = io::large_buffer();
     let file = os::open_read(b"cases.txt");
@@ -52,7 +62,17 @@ fn run_cases(file: &[u8]) {
     }
 }
 
+// Makes the call that the case asks for, with the fronts of slices lent.
 fn run_case(case: &[u8]) {
+    let ends = ends_of(field(case, 6));
+    let table_end = ends.table;
+    let pairs_end = ends.pairs;
+    let look_end = ends.look;
+    let diagrams_end = ends.diagrams;
+    let stages_end = ends.stages;
+    let rows_end = ends.rows;
+    let marks_end = ends.marks;
+    let setting_end = ends.setting;
     let mut table = [LITERAL_BEFORE; TABLE_ROOM];
     let mut pairs = [WORD_BEFORE; WORKING_ROOM];
     let mut look = [WORD_BEFORE; WORKING_ROOM];
@@ -62,16 +82,17 @@ fn run_case(case: &[u8]) {
     let mut marks = [MARK_BEFORE; MARKS_ROOM];
     let mut setting = [SETTING_BEFORE; SETTING_ROOM];
     fill_front(field(case, 1), &mut table);
-    let reply = compare_case(
-        case,
-        &mut table,
-        &mut pairs,
-        &mut look,
-        &mut diagrams,
-        &mut stages,
-        &mut rows,
-        &mut marks,
-        &mut setting,
+    let reply = comparer::compare(
+        &mut table[..table_end],
+        number(field(case, 2)),
+        limits_of(case),
+        &mut pairs[..pairs_end],
+        &mut look[..look_end],
+        &mut diagrams[..diagrams_end],
+        &mut stages[..stages_end],
+        &mut rows[..rows_end],
+        &mut marks[..marks_end],
+        &mut setting[..setting_end],
     );
     let is_kept = are_kept(
         case,
@@ -87,39 +108,21 @@ fn run_case(case: &[u8]) {
     show(field(case, 0), reply, is_kept);
 }
 
-// The call that the case asks for.
-fn compare_case(
-    case: &[u8],
-    table: &mut [u32],
-    pairs: &mut [u32],
-    look: &mut [u32],
-    diagrams: &mut [u32],
-    stages: &mut [u32],
-    rows: &mut [u32],
-    marks: &mut [u8],
-    setting: &mut [u8],
-) -> Reply {
-    let lengths = field(case, 6);
-    let table_end = length_at(lengths, 0, table.len());
-    let pairs_end = length_at(lengths, 1, pairs.len());
-    let look_end = length_at(lengths, 2, look.len());
-    let diagrams_end = length_at(lengths, 3, diagrams.len());
-    let stages_end = length_at(lengths, 4, stages.len());
-    let rows_end = length_at(lengths, 5, rows.len());
-    let marks_end = length_at(lengths, 6, marks.len());
-    let setting_end = length_at(lengths, 7, setting.len());
-    comparer::compare(
-        &mut table[..table_end],
-        number(field(case, 2)),
-        limits_of(case),
-        &mut pairs[..pairs_end],
-        &mut look[..look_end],
-        &mut diagrams[..diagrams_end],
-        &mut stages[..stages_end],
-        &mut rows[..rows_end],
-        &mut marks[..marks_end],
-        &mut setting[..setting_end],
-    )
+// The lengths that a case asks for.
+fn ends_of(lengths: &[u8]) -> Ends
+    ensures words { λ r. ⌜ (r .table ≤ 12420) × (r .pairs ≤ 12420) × (r .look ≤ 12420) × (r .diagrams ≤ 12420) × (r .stages ≤ 12420) × (r .rows ≤ 131076) ⌝ }
+    ensures bytes { λ r. ⌜ (r .marks ≤ 6210) × (r .setting ≤ 65) ⌝ }
+{
+    Ends {
+        table: length_at(lengths, 0, TABLE_ROOM),
+        pairs: length_at(lengths, 1, WORKING_ROOM),
+        look: length_at(lengths, 2, WORKING_ROOM),
+        diagrams: length_at(lengths, 3, WORKING_ROOM),
+        stages: length_at(lengths, 4, WORKING_ROOM),
+        rows: length_at(lengths, 5, ROWS_ROOM),
+        marks: length_at(lengths, 6, MARKS_ROOM),
+        setting: length_at(lengths, 7, SETTING_ROOM),
+    }
 }
 
 fn limits_of(case: &[u8]) -> Limits {
@@ -173,14 +176,14 @@ fn is_front(front: &[u8], table: &[u32]) -> bool {
 // Whether the slices hold what they held before the call.
 fn are_kept(
     case: &[u8],
-    table: &[u32],
-    pairs: &[u32],
-    look: &[u32],
-    diagrams: &[u32],
-    stages: &[u32],
-    rows: &[u32],
-    marks: &[u8],
-    setting: &[u8],
+    table: &[u32; TABLE_ROOM],
+    pairs: &[u32; WORKING_ROOM],
+    look: &[u32; WORKING_ROOM],
+    diagrams: &[u32; WORKING_ROOM],
+    stages: &[u32; WORKING_ROOM],
+    rows: &[u32; ROWS_ROOM],
+    marks: &[u8; MARKS_ROOM],
+    setting: &[u8; SETTING_ROOM],
 ) -> bool {
     is_front(field(case, 1), table)
         && are_words(pairs)

@@ -1,183 +1,170 @@
-// One comparison, and its reply held against what the truth tables say.
+// The comparisons of a table, and each reply held against what the truth tables say.
 use crate::ROWS;
 use crate::TABLE;
 use crate::VERTICES;
+use crate::asked;
+use crate::asked::Asked;
+use crate::asked::Facts;
 use crate::settings;
 use crate::tables;
 use crate::tally;
 use crate::tally::KINDS;
-use compare_model::Limits;
-use sweep_model::Cause;
-use sweep_model::Counts;
-use sweep_model::Reply;
+use comparer::Cause;
+use comparer::Counts;
+use comparer::Limits;
+use comparer::Reply;
 
-// Limits under which each of these circuits is decided.
-pub const LARGE_SIZE: u32 = 4096;
-
-pub const LARGE_ROWS: u32 = 8192;
-
-pub const LARGE_STEPS: u64 = 1_000_000;
-
-// What is known of an output of a table: the first setting on which its two sides differ, or tables::SETTINGS.
-pub struct Known {
-    pub inputs: u32,
-    pub vertices: u32,
-    pub difference: u32,
-}
-
-// Compares an output and judges the reply.
-pub fn compare(
+// Makes the comparisons, turn by turn, and judges each reply.
+pub fn compare_all(
     table: &mut [u32; TABLE],
-    output: u32,
-    limits: Limits,
     pairs: &mut [u32; TABLE],
     look: &mut [u32; TABLE],
     diagrams: &mut [u32; TABLE],
     stages: &mut [u32; TABLE],
     rows: &mut [u32; ROWS],
     marks: &mut [u8; VERTICES],
-    known: Known,
+    facts: Facts,
+    seed: &mut u32,
     tally: &mut [u32; KINDS],
 ) {
-    let mut setting = [settings::BLANK; settings::BYTES];
-    let reply = comparer::compare(
-        table,
-        output,
-        limits,
-        pairs,
-        look,
-        diagrams,
-        stages,
-        rows,
-        marks,
-        &mut setting,
-    );
-    judge(reply, limits, known, marks, &setting, tally);
+    let turns = asked::turns(facts);
+    let mut first = 0;
+    let mut turn = 0;
+    while turn < turns {
+        turn += 1;
+        let asked = asked::draw_asked(facts, turn, &mut first, seed);
+        let mut setting = [settings::BLANK; settings::BYTES];
+        let reply = comparer::compare(
+            table,
+            asked.output,
+            limits_of(asked),
+            pairs,
+            look,
+            diagrams,
+            stages,
+            rows,
+            marks,
+            &mut setting,
+        );
+        judge(reply, asked, facts, marks, &setting, tally);
+    }
 }
 
-// Compares an output where the call is turned back, and holds the number and that nothing is written to the setting.
-pub fn refuse(
-    table: &mut [u32; TABLE],
-    output: u32,
-    limits: Limits,
-    pairs: &mut [u32; TABLE],
-    look: &mut [u32; TABLE],
-    diagrams: &mut [u32; TABLE],
-    stages: &mut [u32; TABLE],
-    rows: &mut [u32; ROWS],
-    marks: &mut [u8; VERTICES],
-    number: u32,
-    tally: &mut [u32; KINDS],
-) {
-    let mut setting = [settings::BLANK; settings::BYTES];
-    let reply = comparer::compare(
-        table,
-        output,
-        limits,
-        pairs,
-        look,
-        diagrams,
-        stages,
-        rows,
-        marks,
-        &mut setting,
-    );
-    hold_refused(reply, number, &setting, tally);
+fn limits_of(asked: Asked) -> Limits {
+    Limits {
+        size: asked.size,
+        rows: asked.rows,
+        steps: asked.steps,
+    }
 }
 
-fn hold_refused(
-    reply: Reply,
-    number: u32,
-    setting: &[u8; settings::BYTES],
-    tally: &mut [u32; KINDS],
-) {
-    tally::hold(tally, settings::is_blank(setting));
-    let Reply::Refused(given) = reply else {
-        tally::count(tally, tally::WRONG);
-        return;
-    };
-    tally::count(tally, tally::REFUSED);
-    tally::hold(tally, given == number);
-}
-
+// The refusal that was asked for came, or none; the setting is written where the reply is that the sides differ, and left alone where not.
 fn judge(
     reply: Reply,
-    limits: Limits,
-    known: Known,
+    asked: Asked,
+    facts: Facts,
     marks: &[u8; VERTICES],
     setting: &[u8; settings::BYTES],
     tally: &mut [u32; KINDS],
 ) {
+    let difference = difference_of(facts, asked.output);
+    let written = written_inputs(reply, facts.inputs);
+    tally::hold(tally, refusal_of(reply) == asked.number);
+    tally::hold(tally, settings::holds(setting, difference, written));
     match reply {
         Reply::Equal(counts) => {
-            tally::count(tally, tally::EQUAL);
-            tally::hold(tally, known.difference == tables::SETTINGS);
-            tally::hold(tally, settings::is_blank(setting));
-            hold_counts(counts, limits, tally);
+            let is_right = difference == tables::SETTINGS;
+            count_reply(tally::EQUAL, is_right, counts, asked, tally);
         }
         Reply::Different(counts) => {
-            tally::count(tally, tally::DIFFERENT);
-            tally::hold(tally, known.difference < tables::SETTINGS);
-            tally::hold(
-                tally,
-                settings::holds(setting, known.difference, known.inputs),
-            );
-            hold_counts(counts, limits, tally);
+            let is_right = difference < tables::SETTINGS;
+            count_reply(tally::DIFFERENT, is_right, counts, asked, tally);
         }
         Reply::Undecided(cause, counts) => {
-            tally::hold(tally, settings::is_blank(setting));
-            tally::hold(tally, !is_large(limits));
-            hold_counts(counts, limits, tally);
-            hold_cause(cause, counts, limits, known, marks, tally);
+            let is_right = is_cause(cause, counts, asked, facts.vertices, marks);
+            count_reply(kind_of(cause), is_right, counts, asked, tally);
+            tally::hold(tally, !is_large(asked));
         }
         Reply::Refused(_) => {
-            tally::count(tally, tally::WRONG);
+            tally::count(tally, tally::REFUSED);
         }
     }
 }
 
-fn is_large(limits: Limits) -> bool {
-    if limits.size != LARGE_SIZE {
-        return false;
+// The first difference of an output.
+fn difference_of(facts: Facts, output: u32) -> u32 {
+    match output {
+        0 => facts.first,
+        1 => facts.second,
+        _ => facts.third,
     }
-    if limits.rows != LARGE_ROWS {
-        return false;
-    }
-    limits.steps == LARGE_STEPS
 }
 
-// Rows and steps are within their limits.
-fn hold_counts(counts: Counts, limits: Limits, tally: &mut [u32; KINDS]) {
-    tally::hold(tally, counts.rows <= limits.rows);
-    tally::hold(tally, counts.steps as u64 <= limits.steps);
+// The number of a refusal; 0 for an answer.
+fn refusal_of(reply: Reply) -> u32 {
+    let Reply::Refused(number) = reply else {
+        return 0;
+    };
+    number
+}
+
+// How many digits of a setting a reply goes with.
+fn written_inputs(reply: Reply, inputs: u32) -> u32 {
+    let Reply::Different(_) = reply else {
+        return 0;
+    };
+    inputs
+}
+
+// Counts a reply of a kind; rows and steps are within their limits.
+fn count_reply(
+    kind: usize,
+    is_right: bool,
+    counts: Counts,
+    asked: Asked,
+    tally: &mut [u32; KINDS],
+) {
+    tally::count(tally, kind);
+    tally::hold(tally, is_right);
+    tally::hold(tally, counts.rows <= asked.rows);
+    tally::hold(tally, counts.steps as u64 <= asked.steps);
+}
+
+fn is_large(asked: Asked) -> bool {
+    if asked.size != asked::LARGE_SIZE {
+        return false;
+    }
+    if asked.rows != asked::LARGE_ROWS {
+        return false;
+    }
+    asked.steps == asked::LARGE_STEPS as u64
+}
+
+fn kind_of(cause: Cause) -> usize {
+    match cause {
+        Cause::Size => tally::SIZE,
+        Cause::Rows(_) => tally::ROWS,
+        Cause::Steps(_) => tally::STEPS,
+        Cause::Idle => tally::IDLE,
+    }
 }
 
 // Size: some vertex is marked 2. Rows and Steps: the vertex named is marked 3, and after Steps the limit is used up.
-fn hold_cause(
+fn is_cause(
     cause: Cause,
     counts: Counts,
-    limits: Limits,
-    known: Known,
+    asked: Asked,
+    vertices: u32,
     marks: &[u8; VERTICES],
-    tally: &mut [u32; KINDS],
-) {
+) -> bool {
     match cause {
-        Cause::Size => {
-            tally::count(tally, tally::SIZE);
-            tally::hold(tally, has_dropped(marks, known.vertices));
-        }
-        Cause::Rows(vertex) => {
-            tally::count(tally, tally::ROWS);
-            tally::hold(tally, mark_of(marks, vertex) == 3);
-        }
+        Cause::Size => has_dropped(marks, vertices),
+        Cause::Rows(vertex) => mark_of(marks, vertex) == 3,
         Cause::Steps(vertex) => {
-            tally::count(tally, tally::STEPS);
-            tally::hold(tally, mark_of(marks, vertex) == 3);
-            tally::hold(tally, counts.steps as u64 == limits.steps);
+            let is_used = counts.steps as u64 == asked.steps;
+            is_used && mark_of(marks, vertex) == 3
         }
-        Cause::Idle => {
-            tally::count(tally, tally::IDLE);
-        }
+        Cause::Idle => true,
     }
 }
 

@@ -1,14 +1,13 @@
 // The program's call on many pairs: for each name of the file `names` the name, and the report on the files of that folder. Then the and/or
 // pair with each lent slice one element short.
 use libc::STDOUT_FILENO;
+use load::WORKING_ROOM;
 ghost use Prim.Native.Nat.{_≤_};
 ghost use Rattle.io.specs.Counts.{Counts};
 ghost use lib.ListN.{length};
 
 // A byte more than a file may have, so that a longer one is seen to be too long.
 const FILE_ROOM: usize = netlist_model::MAX_BYTES + 1;
-
-const WORKING_ROOM: usize = 2 * load::MAX_VERTICES;
 
 const SETTING_ROOM: usize = table::MAX_INPUTS as usize;
 

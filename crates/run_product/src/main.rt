@@ -1,5 +1,6 @@
-// Products of diagrams: parities, adders, multiplexers and random circuits, each vertex held to its values on every setting.
-// A line for each circuit: the size of the last vertex made, rows and steps with their limits, the limit passed if any, and whether all values agree.
+// Products of diagrams: the circuits of `circuits.txt`, each vertex held to its values on every setting.
+// A line for each circuit: its name, the size of the last vertex made, rows and steps with their limits, the limit passed if any, and whether all values agree.
+// The file's layout stands in tools/circuits.py, which writes it.
 mod circuit;
 mod diagram;
 mod values;
@@ -8,6 +9,10 @@ use circuit::VERTICES;
 use circuit::WORDS;
 use diagram::Turn;
 use libc::STDOUT_FILENO;
+use run_card_file::card;
+use run_card_file::card_count;
+use run_card_file::field;
+use run_card_file::number;
 ghost use Prim.Native.Nat.{_<_, _^_, _≤_, ℕ};
 ghost use Rattle.bdd.specs.code.Store.{Store};
 ghost use lib.ListN.{getD, length};
@@ -16,7 +21,15 @@ ghost use mathlib.Core.Path.{_≡_};
 // Room for 1,024 rows.
 const ROOM: usize = 4096;
 
-fn number(what: &[u8], x: usize) {
+const MAX_ROWS: usize = 1024;
+
+const MAX_STEPS: usize = 4294967295;
+
+const MAX_INPUTS: usize = 10;
+
+const MAX_SETTINGS: usize = 1024;
+
+fn print(what: &[u8], x: usize) {
     io::write_all(STDOUT_FILENO, what);
     io::print_decimal(STDOUT_FILENO, x as u64);
 }
@@ -39,11 +52,11 @@ fn verdict(end: usize, wrong: usize) {
 // How far a circuit came, against its limits.
 fn show(name: &[u8], size: usize, t: Turn, limit: usize, most: usize, wrong: usize) {
     io::write_all(STDOUT_FILENO, name);
-    number(b": size ", size);
-    number(b", rows ", t.used);
-    number(b" of ", limit);
-    number(b", steps ", t.steps);
-    number(b" of ", most);
+    print(b": size ", size);
+    print(b", rows ", t.used);
+    print(b" of ", limit);
+    print(b", steps ", t.steps);
+    print(b" of ", most);
     verdict(t.end, wrong);
 }
 
@@ -78,87 +91,68 @@ fn run(
     bdd_unique::give_back(rows, t.used, limit, 0);
 }
 
-// A parity and an adder.
-fn arithmetic(rows: &mut [u32], words: &mut [usize; WORDS])
-    requires { ⌜ Store (now rows) 1024 0 ⌝ }
-    ensures { λ _. ⌜ Store (now (rows .exit)) 1024 0 ⌝ }
+// The number in a field of a card, or the most.
+fn number_in(card: &[u8], k: usize, most: usize) -> usize
+    ensures { λ r. ⌜ r ≤ most ⌝ }
 {
-    let n = circuit::parity(words, 10);
-    run(b"parity of 10", rows, 1024, 100000, 10, 1024, words, n);
-    let n = circuit::adder(words, 5);
-    run(b"adder of 5 bits", rows, 1024, 100000, 10, 1024, words, n);
+    at_most(number(field(card, k)) as usize, most)
 }
 
-// Multiplexers with their selecting inputs first, and last.
-fn selection(rows: &mut [u32], words: &mut [usize; WORDS])
-    requires { ⌜ Store (now rows) 1024 0 ⌝ }
-    ensures { λ _. ⌜ Store (now (rows .exit)) 1024 0 ⌝ }
+fn at_most(n: usize, most: usize) -> usize
+    ensures { λ r. ⌜ r ≤ most ⌝ }
 {
-    let n = circuit::multiplexer(words, 1, 3);
+    if n <= most { n } else { most }
+}
+
+// The rows under their next limit: cleared only where that is another one.
+fn set_limit(rows: &mut [u32], limit: usize, next: usize)
+    requires store { ⌜ Store (now rows) limit 0 ⌝ }
+    requires room { ⌜ (next ≤ 1024) × (4096 ≡ length (now rows)) ⌝ }
+    ensures { λ _. ⌜ Store (now (rows .exit)) next 0 ⌝ }
+{
+    if next != limit {
+        bdd_unique::clear(rows, next);
+    }
+}
+
+// Runs the circuit of a card and gives back its limit on rows. Under the limit of the card before it uses the rows again that were given back.
+fn run_card(card: &[u8], rows: &mut [u32], limit: usize) -> usize
+    requires store { ⌜ Store (now rows) limit 0 ⌝ }
+    requires room { ⌜ 4096 ≡ length (now rows) ⌝ }
+    ensures { λ r. ⌜ Store (now (rows .exit)) r 0 ⌝ }
+{
+    let next = number_in(card, 1, MAX_ROWS);
+    set_limit(rows, limit, next);
+    let most = number_in(card, 2, MAX_STEPS);
+    let inputs = number_in(card, 3, MAX_INPUTS);
+    let settings = number_in(card, 4, MAX_SETTINGS);
+    let mut words = [0usize; WORDS];
+    let n = circuit::read(field(card, 6), &mut words);
     run(
-        b"multiplexer, selection first",
+        field(card, 0),
         rows,
-        1024,
-        100000,
-        6,
-        64,
-        words,
+        next,
+        most,
+        inputs,
+        settings,
+        &words,
         n,
     );
-    let n = circuit::multiplexer(words, 5, 1);
-    run(
-        b"multiplexer, selection last",
-        rows,
-        1024,
-        100000,
-        6,
-        64,
-        words,
-        n,
-    );
+    next
 }
 
-// Random functions.
-fn mixed(rows: &mut [u32], words: &mut [usize; WORDS])
-    requires { ⌜ Store (now rows) 1024 0 ⌝ }
-    ensures { λ _. ⌜ Store (now (rows .exit)) 1024 0 ⌝ }
+// Runs the cards one after the other.
+fn run_cards(file: &[u8], rows: &mut [u32])
+    requires { ⌜ 4096 ≡ length (now rows) ⌝ }
 {
-    let n = circuit::random(words, 6, 29, 2);
-    run(b"random of 6", rows, 1024, 100000, 6, 64, words, n);
-    let n = circuit::random(words, 8, 29, 2);
-    run(b"random of 8", rows, 1024, 100000, 8, 256, words, n);
-}
-
-// A random function with as many steps as it takes, and with one fewer.
-fn counted(rows: &mut [u32], words: &mut [usize; WORDS])
-    requires { ⌜ Store (now rows) 1024 0 ⌝ }
-    ensures { λ _. ⌜ Store (now (rows .exit)) 1024 0 ⌝ }
-{
-    let n = circuit::random(words, 10, 29, 1);
-    run(b"random of 10", rows, 1024, 5496, 10, 1024, words, n);
-    run(b"random of 10", rows, 1024, 5495, 10, 1024, words, n);
-}
-
-// A limit on rows: a product that is short gives its rows back, and the next circuits use them again.
-fn tight(rows: &mut [u32], limit: usize, words: &mut [usize; WORDS])
-    requires { ⌜ Store (now rows) limit 0 ⌝ }
-    ensures { λ _. ⌜ Store (now (rows .exit)) limit 0 ⌝ }
-{
-    let n = circuit::parity(words, 10);
-    run(b"parity of 10", rows, limit, 100000, 10, 1024, words, n);
-    let n = circuit::adder(words, 5);
-    run(b"adder of 5 bits", rows, limit, 100000, 10, 1024, words, n);
-    let n = circuit::multiplexer(words, 5, 1);
-    run(
-        b"multiplexer, selection last",
-        rows,
-        limit,
-        100000,
-        6,
-        64,
-        words,
-        n,
-    );
+    bdd_unique::clear(rows, MAX_ROWS);
+    let count = card_count(file);
+    let mut limit = MAX_ROWS;
+    let mut k = 0;
+    while k < count {
+        limit = run_card(card(file, k), rows, limit);
+        k += 1;
+    }
 }
 
 fn no_rows() -> [u32; ROOM]
@@ -168,15 +162,10 @@ fn no_rows() -> [u32; ROOM]
 }
 
 fn main() {
+    let mut bytes = io::large_buffer();
     let mut rows = no_rows();
-    let mut words = [0usize; WORDS];
-    bdd_unique::clear(&mut rows, 1024);
-    arithmetic(&mut rows, &mut words);
-    selection(&mut rows, &mut words);
-    mixed(&mut rows, &mut words);
-    counted(&mut rows, &mut words);
-    bdd_unique::clear(&mut rows, 164);
-    tight(&mut rows, 164, &mut words);
-    bdd_unique::clear(&mut rows, 163);
-    tight(&mut rows, 163, &mut words);
+    let file = os::open_read(b"circuits.txt");
+    let end = io::read_full(file, &mut bytes);
+    libc::close(file);
+    run_cards(&bytes[..end], &mut rows);
 }

@@ -1,4 +1,4 @@
--- Invariant: the place is within the words.
+-- Invariant: the place is within the words that are shown.
 -- The measure is what is left of them.
 use Prim.Native.Nat.{_-_, _≤_}
 use Rattle.run_load.proofs.print_words.Statement.{statement}
@@ -6,16 +6,19 @@ use Rattle.run_load.proofs.print_words.Tie as tie
 use borrow.Author.Needs.{needs}
 
 abbrev Inv-loop : tie.InvT-loop
-Inv-loop words count i₀ t4 t5 i = i ≤ count
+Inv-loop words count end i₀ t6 t7 i = (i ≤ end) × (end ≤ 12419)
 
 abbrev μ-loop : tie.MeasureT-loop
-μ-loop words count i₀ t4 t5 i = count - i
+μ-loop words count end i₀ t6 t7 i = end - i
 
 slice-aggregate-write-all : tie.Need-slice-aggregate-write-all Inv-loop μ-loop
 slice-aggregate-write-all c = search needs
 
 write-all-requires : tie.Need-write-all-requires Inv-loop μ-loop
 write-all-requires c κs = search needs
+
+at-most-requires : tie.Need-at-most-requires Inv-loop μ-loop
+at-most-requires c κs = search needs
 
 loop-holds : tie.Need-loop-holds Inv-loop μ-loop
 loop-holds c = search needs
@@ -26,8 +29,8 @@ slice-aggregate-print c = search needs
 mul-print : tie.Need-mul-print Inv-loop μ-loop
 mul-print c = search needs
 
-shared-slice-read-print : tie.Need-shared-slice-read-print Inv-loop μ-loop
-shared-slice-read-print c = search needs
+element-copy-out-print : tie.Need-element-copy-out-print Inv-loop μ-loop
+element-copy-out-print c = search needs
 
 print-requires : tie.Need-print-requires Inv-loop μ-loop
 print-requires c κs = search needs
@@ -58,10 +61,11 @@ print-words-spec =
     μ-loop
     slice-aggregate-write-all
     write-all-requires
+    at-most-requires
     loop-holds
     slice-aggregate-print
     mul-print
-    shared-slice-read-print
+    element-copy-out-print
     print-requires
     add-i
     loop-less
