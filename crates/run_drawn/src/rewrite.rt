@@ -1,9 +1,11 @@
 // The same circuit written another way, gate by gate, or with a fault at one gate.
 use crate::circuit;
+use crate::circuit::AND;
+use crate::circuit::OR;
 use crate::circuit::WORDS;
+use crate::circuit::XOR;
 use crate::random::draw;
 use crate::random::draw_late;
-ghost use Prim.Native.Nat.{_<_};
 
 // What became of each vertex: its reference in the other circuit.
 const PLACES: usize = 256;
@@ -11,62 +13,15 @@ const PLACES: usize = 256;
 // A gate number that no circuit has.
 const NO_GATE: u32 = 1000;
 
-// The gates that stand for an and, an or and an exclusive or in each form. A gate has three digits, and the last three digits of a word are
-// its first gate: the operation, 0 and, 1 or, 2 exclusive or; then the operands, 0 for p, 2 for q, 4 for another reference, 6 for the gate
-// before, 8 for the one before that, and 1, 3 and 7 for the inversions of p, q and the gate before. The last gate is the result, inverted in the forms 2 and 4.
-const GATES: [u32; 30] = [
-    // 0: the gate.
-    2,
-    102,
-    202,
-    // 1: its operands swapped.
-    20,
-    120,
-    220,
-    // 2: an or as an inverted and of inversions, an and likewise; an exclusive or with an operand and its result inverted.
-    113,
-    13,
-    212,
-    // 3: the gate, the gate again with its operands swapped, and the and of the two.
-    86_020_002,
-    86_120_102,
-    86_220_202,
-    // 4: the gate's inversion as a gate of its own, inverted again.
-    177_002,
-    177_102,
-    177_202,
-    // 5: an and or an or by absorption; an exclusive or as two ands and an or.
-    6_112,
-    106_012,
-    186_003_012,
-    // 6: faulty, the next operation.
-    102,
-    202,
-    2,
-    // 7: faulty, the operation after that.
-    202,
-    2,
-    102,
-    // 8: faulty, an operand inverted.
-    3,
-    103,
-    203,
-    // 9: faulty, another operand.
-    4,
-    104,
-    204,
-];
-
-// The form with another operand.
-const OTHER: u32 = 9;
-
 // Writes a circuit another way; every second one has a fault.
 pub fn rewrite(from: &[u32; WORDS], to: &mut [u32; WORDS], seed: &mut u32) {
     circuit::begin(to, circuit::inputs(from), circuit::outputs(from));
     let mut places = [0u32; PLACES];
     let fault = draw_fault(circuit::gates(from), seed);
     place_gates(from, to, &mut places, fault, seed);
-    place_outputs(from, to, &places);
+    place_output(from, to, &places, 0);
+    place_output(from, to, &places, 1);
+    place_output(from, to, &places, 2);
 }
 
 // The gate that is to be faulty: more often a late one, and every second time none.
@@ -107,22 +62,22 @@ fn place_gate(
     let p = place_of(from, places, circuit::left(from, gate));
     let q = place_of(from, places, circuit::right(from, gate));
     let vertex = circuit::vertex_of(from, gate);
-    let form = draw_form(faulty, seed);
-    let other = draw_other(form, circuit::references(to), seed);
-    let r = add_gates(to, operation, p, q, other, form);
-    set_place(places, vertex, r);
+    let form = draw(seed, 6);
+    if faulty {
+        let r = add_faulty(to, operation, p, q, form, seed);
+        set_place(places, vertex, r);
+    } else {
+        let r = add_alike(to, operation, p, q, form);
+        set_place(places, vertex, r);
+    }
 }
 
 fn set_place(places: &mut [u32; PLACES], vertex: u32, r: u32) {
     places[vertex as usize % PLACES] = r;
 }
 
-fn place_outputs(from: &[u32; WORDS], to: &mut [u32; WORDS], places: &[u32; PLACES]) {
-    let mut k = 0;
-    while k < circuit::OUTPUTS {
-        circuit::set_output(to, k, place_of(from, places, circuit::output(from, k)));
-        k += 1;
-    }
+fn place_output(from: &[u32; WORDS], to: &mut [u32; WORDS], places: &[u32; PLACES], k: u32) {
+    circuit::set_output(to, k, place_of(from, places, circuit::output(from, k)));
 }
 
 // The other circuit's reference for a reference: inputs and the constant keep theirs.
@@ -139,70 +94,83 @@ fn place_of(from: &[u32; WORDS], places: &[u32; PLACES], r: u32) -> u32 {
     }
 }
 
-fn draw_form(faulty: bool, seed: &mut u32) -> u32 {
-    let form = draw(seed, 6);
-    if faulty { fault_form(form) } else { form }
-}
-
-fn fault_form(form: u32) -> u32 {
-    match form {
-        0 => 6,
-        1 => 7,
-        2 => 8,
-        3 => 8,
-        _ => OTHER,
+// A gate with another operation, an operand inverted or another operand.
+fn add_faulty(
+    to: &mut [u32; WORDS],
+    operation: u32,
+    p: u32,
+    q: u32,
+    form: u32,
+    seed: &mut u32,
+) -> u32 {
+    if form < 2 {
+        return circuit::add_gate(to, (operation % 3 + 1 + form) % 3, p, q);
     }
-}
-
-// A reference of those that there are, where the form has another operand.
-fn draw_other(form: u32, references: u32, seed: &mut u32) -> u32
-    requires { ⌜ 0 < references ⌝ }
-{
-    if form == OTHER {
-        return draw(seed, references);
+    if form < 4 {
+        return circuit::add_gate(to, operation, p, circuit::invert(q));
     }
-    0
+    let other = draw(seed, circuit::references(to));
+    circuit::add_gate(to, operation, p, other)
 }
 
-// Adds the gates of a form and gives back the reference of the result.
-fn add_gates(to: &mut [u32; WORDS], operation: u32, p: u32, q: u32, other: u32, form: u32) -> u32 {
-    let mut last = 0;
-    let mut before = 0;
-    let mut rest = gates_of(form, operation);
-    while rest != 0 {
-        let first = operand(rest / 10, p, q, other, last, before);
-        let second = operand(rest, p, q, other, last, before);
-        let made = circuit::add_gate(to, rest / 100 % 10, first, second);
-        before = last;
-        last = made;
-        rest /= 1000;
+// Gates of the same function as one gate.
+fn add_alike(to: &mut [u32; WORDS], operation: u32, p: u32, q: u32, form: u32) -> u32 {
+    if form == 0 {
+        return circuit::add_gate(to, operation, p, q);
     }
-    result(form, last)
-}
-
-fn gates_of(form: u32, operation: u32) -> u32 {
-    let at = (form % 10 * 3 + operation % 3) as usize;
-    GATES[at]
-}
-
-// The operand that the last digit names.
-fn operand(digits: u32, p: u32, q: u32, other: u32, last: u32, before: u32) -> u32 {
-    match digits % 10 {
-        0 => p,
-        1 => circuit::invert(p),
-        2 => q,
-        3 => circuit::invert(q),
-        4 => other,
-        6 => last,
-        7 => circuit::invert(last),
-        _ => before,
+    if form == 1 {
+        return circuit::add_gate(to, operation, q, p);
     }
+    if form == 2 {
+        return add_dual(to, operation, p, q);
+    }
+    if form == 3 {
+        return add_twice(to, operation, p, q);
+    }
+    if form == 4 {
+        return add_inverted_twice(to, operation, p, q);
+    }
+    add_spread(to, operation, p, q)
 }
 
-fn result(form: u32, r: u32) -> u32 {
-    match form {
-        2 => circuit::invert(r),
-        4 => circuit::invert(r),
-        _ => r,
+// An or as an inverted and of inversions, an and likewise; an exclusive or with an operand and its result inverted.
+fn add_dual(to: &mut [u32; WORDS], operation: u32, p: u32, q: u32) -> u32 {
+    if operation == AND {
+        let r = circuit::add_gate(to, OR, circuit::invert(p), circuit::invert(q));
+        return circuit::invert(r);
     }
+    if operation == OR {
+        let r = circuit::add_gate(to, AND, circuit::invert(p), circuit::invert(q));
+        return circuit::invert(r);
+    }
+    let r = circuit::add_gate(to, XOR, circuit::invert(p), q);
+    circuit::invert(r)
+}
+
+// The gate, the gate again with its operands swapped, and the and of the two.
+fn add_twice(to: &mut [u32; WORDS], operation: u32, p: u32, q: u32) -> u32 {
+    let r = circuit::add_gate(to, operation, p, q);
+    let s = circuit::add_gate(to, operation, q, p);
+    circuit::add_gate(to, AND, r, s)
+}
+
+// The gate's inversion as a gate of its own, inverted again.
+fn add_inverted_twice(to: &mut [u32; WORDS], operation: u32, p: u32, q: u32) -> u32 {
+    let r = circuit::add_gate(to, operation, p, q);
+    let s = circuit::add_gate(to, OR, circuit::invert(r), circuit::invert(r));
+    circuit::invert(s)
+}
+
+// An exclusive or as two ands and an or; an and or an or by absorption.
+fn add_spread(to: &mut [u32; WORDS], operation: u32, p: u32, q: u32) -> u32 {
+    if operation == AND {
+        let r = circuit::add_gate(to, OR, circuit::invert(p), q);
+        return circuit::add_gate(to, AND, p, r);
+    }
+    let r = circuit::add_gate(to, AND, circuit::invert(p), q);
+    if operation == OR {
+        return circuit::add_gate(to, OR, p, r);
+    }
+    let s = circuit::add_gate(to, AND, p, circuit::invert(q));
+    circuit::add_gate(to, OR, r, s)
 }
