@@ -32,34 +32,39 @@ pub const LARGE_ROWS: u32 = 8192;
 
 pub const LARGE_STEPS: u32 = 1_000_000;
 
-// The refusals: size limit, row limit, two numbers whose sum is the step limit, and the refusal's number. First an output that is too
-// high, then rows for which the lent slice is short, then each limit outside its range.
+// The refusals: size limit, row limit, two numbers whose sum is the step limit, and the refusal's number.
 const REFUSED: [u32; 30] = [
+    // An output that is too high.
     4096,
     8192,
     1_000_000,
     0,
     12,
+    // Rows for which the lent slice is short.
     1,
     32768,
     1,
     0,
     14,
+    // A size limit of 0.
     0,
     1,
     1,
     0,
     13,
+    // A row limit that is too high.
     1,
     32769,
     1,
     0,
     13,
+    // A step limit of 0.
     1,
     1,
     0,
     0,
     13,
+    // A step limit that is too high.
     1,
     1,
     4_294_967_295,
