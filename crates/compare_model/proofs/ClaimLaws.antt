@@ -1,14 +1,14 @@
 -- Each reply of a comparison that is not refused keeps what the rules say of it: a law for each verdict of the sweep, and one for the marks.
 use Prim.Native.Nat.{ℕ}
 use Rattle.compare_model.proofs.RefusalLaws.{compared-answered}
-use Rattle.compare_model.proofs.ReplyLaws.{different-replied, equal-replied, idle-unsaid, marks-replied, rows-replied, rows-short, size-replied, steps-replied, steps-short, steps-spent}
+use Rattle.compare_model.proofs.ReplyLaws.{different-replied, equal-replied, marks-replied, rows-replied, rows-short, size-replied, steps-replied, steps-short, steps-spent}
 use Rattle.compare_model.proofs.Since.{Since}
 use Rattle.compare_model.specs.Claims.{Differs, MarksKept, ReplySays, StepsKept, problemBy}
 use Rattle.compare_model.specs.Compare.{Given, Left, answerTo, answered, compared, refusalOf, saidBy, settingLeft}
 use Rattle.compare_model.specs.Said.{Named, Said}
 use Rattle.sweep_model.specs.Claims.{Names}
 use Rattle.sweep_model.specs.Sweep.{Verdict, different, equal, undecided}
-use Rattle.sweep_model.specs.declared.Cause.the-variants.{Idle, Rows, Size, Steps}
+use Rattle.sweep_model.specs.declared.Cause.the-variants.{Rows, Size, Steps}
 use Rattle.truth.specs.Truth.{Setting}
 use mathlib.Core.List.{List}
 use mathlib.Core.Path.{_≡_, refl, subst, sym}
@@ -60,7 +60,6 @@ module _ (g : Given) (h : refusalOf g ≡ 0) {loaded : List ℕ} (s : Since load
       named-verdict (undecided Size) v n = elim n [ ]
       named-verdict (undecided (Rows u)) v Named.by-rows = Names.by-rows
       named-verdict (undecided (Steps u)) v Named.by-steps = Names.by-steps
-      named-verdict (undecided Idle) v n = elim n [ ]
 
   -- Rows is said only where the functions marked 1 or 3 have more parts than the row limit.
   rows-says : (v : ℕ) → answerTo g .verdict ≡ undecided (Rows v) → ReplySays loaded g left (saidAt (undecided (Rows v)))
@@ -79,7 +78,6 @@ module _ (g : Given) (h : refusalOf g ≡ 0) {loaded : List ℕ} (s : Since load
   verdict-says (undecided Size) k = size-says k
   verdict-says (undecided (Rows v)) k = rows-says v k
   verdict-says (undecided (Steps v)) k = steps-says v k
-  verdict-says (undecided Idle) k = absurd (idle-unsaid g h s k)
 
   -- Each reply keeps what the rules say of it,
   pub reply-says : ReplySays loaded g (compared g) (compared g .reply)

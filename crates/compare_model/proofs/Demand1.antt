@@ -2,11 +2,11 @@
 use Prim.Native.Nat.{_*_, ℕ}
 use Rattle.compare_model.proofs.RefusalLaws.{compared-answered, passed}
 use Rattle.compare_model.specs.Compare.{CompareRoom, Given, answerTo, answered, beyond?, callTests, compared, outside?, refusalOf, saidBy, shortSlice?, sliceWords}
-use Rattle.compare_model.specs.Demand1.{Answers, Good, says-different, says-equal, says-idle, says-rows, says-size, says-steps}
+use Rattle.compare_model.specs.Demand1.{Answers, Good, says-different, says-equal, says-rows, says-size, says-steps}
 use Rattle.compare_model.specs.Passed.{Enough, LimitsWithin, Passed, Within}
 use Rattle.sweep_model.specs.State.{Limits}
 use Rattle.sweep_model.specs.Sweep.{Verdict, different, equal, undecided}
-use Rattle.sweep_model.specs.declared.Cause.the-variants.{Idle, Rows, Size, Steps}
+use Rattle.sweep_model.specs.declared.Cause.the-variants.{Rows, Size, Steps}
 use Rattle.table.proofs.AcceptedLaws.{accepts}
 use Rattle.table.proofs.FitsLaws.{accepted-fits, fits-accepted}
 use Rattle.table.proofs.RefusalLaws.{table-passed}
@@ -116,4 +116,3 @@ module _ (g : Given) where
       said (undecided Size) rows steps = says-size
       said (undecided (Rows v)) rows steps = says-rows
       said (undecided (Steps v)) rows steps = says-steps
-      said (undecided Idle) rows steps = says-idle

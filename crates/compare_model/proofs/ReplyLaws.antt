@@ -10,7 +10,6 @@ use Rattle.compare_model.specs.Said.{Named, Said}
 use Rattle.sweep_model.proofs.AfterRest.{after-rest}
 use Rattle.sweep_model.proofs.Kept.{pair-steps}
 use Rattle.sweep_model.proofs.Marked.{andAt, ands-at, ands-length}
-use Rattle.sweep_model.proofs.NeverIdle.{never-idle}
 use Rattle.sweep_model.proofs.ReplyLaws.{constant-mark, mark-known, marked-unmerged, marks-long, one-small, rows-counted, rows-passed, size-some, steps-counted, steps-full, steps-passed, three-named, two-large, two-made}
 use Rattle.sweep_model.proofs.Right.{different-right, equal-right}
 use Rattle.sweep_model.specs.Claims.{And, Names, andSteps, andsFrom, andsOf, is, isEither, marked, sum}
@@ -18,7 +17,7 @@ use Rattle.sweep_model.specs.Fit.{vertexCount}
 use Rattle.sweep_model.specs.Normalise.{merged?}
 use Rattle.sweep_model.specs.State.{Problem, functionOf, literalFunction}
 use Rattle.sweep_model.specs.Sweep.{different, equal, undecided}
-use Rattle.sweep_model.specs.declared.Cause.the-variants.{Idle, Rows, Size, Steps}
+use Rattle.sweep_model.specs.declared.Cause.the-variants.{Rows, Size, Steps}
 use Rattle.table.proofs.FunctionLaws.{value-output}
 use Rattle.table.specs.Table.{graphOf, inputsOf, outputFunction, outputValue, verticesOf}
 use Rattle.truth.proofs.Booleans.{clash}
@@ -28,7 +27,7 @@ use lib.ListN.{List·getD-append, List·getD-eq-default, drop, getD, length, len
 use lib.Seq.{drop-append-le, getD-drop}
 use mathlib.Core.Bool.{Bool, _||_, cond, false, true}
 use mathlib.Core.List.{List, [], _++_, _∷_, map}
-use mathlib.Core.Logic.{_↔_, _≢_, inl}
+use mathlib.Core.Logic.{_↔_, _≢_}
 use mathlib.Core.Path.{_∙_, _≡_, ap, ap₂, refl, subst, sym}
 use native.Mathlib.Decide.{decLt}
 use native.Mathlib.Omega.{arith}
@@ -228,7 +227,7 @@ module _ (g : Given) (h : refusalOf g ≡ 0) {loaded : List ℕ} (s : Since load
         made = omega (arith, two-made (given-fits g h) (d .0) (d .2), same-first);
         there = omega (arith, d .1, same-count);
         mark = sym (mark-written (d .0) (omega (arith, d .1, same-count))) ∙ d .2;
-        at-rest = rest-alike same-first same-count (sym (given-rows g h)) first-few mark-written (after-rest (given-fits g h) (inl e));
+        at-rest = rest-alike same-first same-count (sym (given-rows g h)) first-few mark-written (after-rest (given-fits g h) e);
       }
 
   -- After Rows the functions marked 1 or 3 have more parts than the row limit.
@@ -248,11 +247,6 @@ module _ (g : Given) (h : refusalOf g ≡ 0) {loaded : List ℕ} (s : Since load
   unfolding answerTo problemOf
   steps-short v e =
       subst (λ (n : ℕ). here .limits .steps < n) (steps-marked (λ m. isEither 1 2 m || is 3 m) refl) (steps-passed (given-fits g h) v e)
-
-  -- Idle is never said.
-  pub idle-unsaid : answerTo g .verdict ≢ undecided Idle
-  unfolding answerTo
-  idle-unsaid = never-idle (given-fits g h)
 
   -- The vertex that the verdict names, and no other, is marked 3.
   named-marked : (v : ℕ) → Names (answerTo g .verdict) v

@@ -50,8 +50,8 @@ pub record MarksKept (p : Problem) (marks : List ℕ) (said : Said) : Type 0 whe
   pub large : (v : ℕ) → v < length (p .functions) → getD marks v 0 ≡ 2 → p .limits .size < size (functionOf p v)
   pub named : (v : ℕ) → Named said v ↔ ((v < length (p .functions)) × (getD marks v 0 ≡ 3))
 
--- "After Size, some vertex is marked 2": an AND. "After Size and Idle, every input is marked 1, and every AND marked 0 ..", the operands by the
--- rows as left. (RULES 7.9, 7.10)
+-- "After Size, some vertex is marked 2": an AND. "After Size, every input is marked 1, and every AND marked 0 ..", the operands by the rows
+-- as left. (RULES 7.9, 7.10)
 pub record AfterSize (p : Problem) (marks rows : List ℕ) : Type 0 where
   pub vertex : ℕ
   pub made : p .first ≤ vertex
@@ -67,8 +67,8 @@ AfterRows p marks = p .limits .rows < rowsMarkedWithLast p marks
 abbrev pub AfterSteps : Problem → List ℕ → List ℕ → Type 0
 AfterSteps p entry marks = p .limits .steps < stepsMarkedWithLast p entry marks
 
--- What is said of each reply of a comparison that is not refused, beside its marks. "After Steps, steps = the limit". It says no refusal, and
--- never Idle. (RULES 7.7)
+-- What is said of each reply of a comparison that is not refused, beside its marks. "After Steps, steps = the limit". It says no refusal.
+-- (RULES 7.7)
 abbrev pub ReplySays : List ℕ → Given → Left → Said → Type 0
 ReplySays loaded given left (Said.refused n) = ⊥
 ReplySays loaded given left (Said.equal rows steps) =
@@ -80,4 +80,3 @@ ReplySays loaded given left (Said.size rows steps) =
 ReplySays loaded given left (Said.rows v rows steps) = AfterRows (problemBy loaded given) (left .marks) × RowsKept loaded given left rows
 ReplySays loaded given left (Said.steps v rows steps) =
     AfterSteps (problemBy loaded given) (graphWords loaded) (left .marks) × RowsKept loaded given left rows × (steps ≡ given .limits .steps)
-ReplySays loaded given left (Said.idle rows steps) = ⊥

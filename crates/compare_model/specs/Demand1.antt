@@ -28,11 +28,10 @@ pub record Good (g : Given) : Type 0 where
   pub marks : vertexCount g ≤ length (g .marks)
   pub setting : word (g .table) 0 ≤ length (g .setting)
 
--- "Replies: Equal; Different; Undecided by Size ..; by Rows ..; by Steps ..; Idle": what is said is no refusal. (RULES 7.3)
+-- "Replies: Equal; Different; Undecided by Size ..; by Rows ..; by Steps ..": what is said is no refusal. (RULES 7.3)
 pub data Answers : Said → Type 0 where
   says-equal : {rows steps : ℕ} → Answers (Said.equal rows steps)
   says-different : {rows steps : ℕ} → Answers (Said.different rows steps)
   says-size : {rows steps : ℕ} → Answers (Said.size rows steps)
   says-rows : {vertex rows steps : ℕ} → Answers (Said.rows vertex rows steps)
   says-steps : {vertex rows steps : ℕ} → Answers (Said.steps vertex rows steps)
-  says-idle : {rows steps : ℕ} → Answers (Said.idle rows steps)

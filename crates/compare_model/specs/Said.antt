@@ -1,6 +1,6 @@
 -- The answer of a comparison in the rules' terms. (RULES 7.3, 8.1)
 use Prim.Native.Nat.{ℕ}
-use Rattle.sweep_model.specs.declared.Cause.the-variants.{Idle, Rows, Size, Steps}
+use Rattle.sweep_model.specs.declared.Cause.the-variants.{Rows, Size, Steps}
 use Rattle.sweep_model.specs.declared.Cause.{Cause}
 use Rattle.sweep_model.specs.declared.Reply.the-variants.{Different, Equal, Refused, Undecided}
 use Rattle.sweep_model.specs.declared.Reply.{Reply}
@@ -14,14 +14,12 @@ pub data Said : Type 0 where
   size : (rows steps : ℕ) → Said
   rows : (vertex rows steps : ℕ) → Said
   steps : (vertex rows steps : ℕ) → Said
-  idle : (rows steps : ℕ) → Said
 
--- "Undecided by Size ..; by Rows with the vertex ..; by Steps with the vertex ..; Idle .., also an Undecided." (RULES 7.3)
+-- "Undecided by Size ..; by Rows with the vertex ..; by Steps with the vertex .." (RULES 7.3)
 abbrev pub undecidedBy : Cause → ℕ → ℕ → Said
 undecidedBy Size r s = Said.size r s
 undecidedBy (Rows v) r s = Said.rows v r s
 undecidedBy (Steps v) r s = Said.steps v r s
-undecidedBy Idle r s = Said.idle r s
 
 -- The rules' number or values for each case of the reply. (RULES 7.3, 8.1)
 abbrev pub saidOf : Reply → Said

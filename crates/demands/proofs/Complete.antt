@@ -17,7 +17,7 @@ use mathlib.Core.Path.{_≡_}
 
 module _ {d e : Netlist} (h : Loadable d e) (old : List ℕ) (g : Given) (s : Since (tableOf d e old) (g .table)) (r : refusalOf g ≡ 0)
     (enough : Suffice d e (g .limits)) where
-  -- Idle is never said, and the limits rule out each other cause.
+  -- The limits rule out each cause.
   reply-decides : (x : Said) → ReplySays (tableOf d e old) g (compared g) x → ReplyKept d e (tableOf d e old) g (compared g) x → Decided d e (g .output) x
   reply-decides (Said.refused n) says k = absurd says
   reply-decides (Said.equal rows steps) says k = is-equal (k .1)
@@ -25,7 +25,6 @@ module _ {d e : Netlist} (h : Loadable d e) (old : List ℕ) (g : Given) (s : Si
   reply-decides (Said.size rows steps) says k = absurd (enough .small (k .1))
   reply-decides (Said.rows v rows steps) says k = absurd (enough .few-parts (k .1))
   reply-decides (Said.steps v rows steps) says k = absurd (enough .few-steps (k .1))
-  reply-decides (Said.idle rows steps) says k = absurd says
 
   -- A comparison that is not refused decides.
   decides : Decided d e (g .output) (compared g .reply)

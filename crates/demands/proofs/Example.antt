@@ -23,7 +23,7 @@ use Rattle.product_model.specs.Run.{_andThen_, addPart, addRow, countStep, plai
 use Rattle.sweep_model.specs.Claims.{andFunction, andSteps, sum}
 use Rattle.sweep_model.specs.Normalise.{foldedRow, foundRow, normalise, normaliseFrom, normaliseRow, resolve, takeAt, takesFrom, wake, wakeAt}
 use Rattle.sweep_model.specs.State.{bare?, dropped?, gone?, has?, open?, waits?}
-use Rattle.sweep_model.specs.Sweep.{andThen, anyDropped?, begin, cause, conclude, giveRow, go, goFor, look, lookAt, meet, multiply, openAt, pickFrom, ready?, resultOf, scanFrom, smaller, start, sweep, swept, topPart, turnsLeft, turnsOf, twinFrom, visit}
+use Rattle.sweep_model.specs.Sweep.{andThen, begin, conclude, giveRow, go, goFor, look, lookAt, meet, multiply, openAt, pickFrom, ready?, resultOf, scanFrom, smaller, start, sweep, swept, topPart, turnsLeft, turnsOf, twinFrom, visit}
 use Rattle.sweep_model.specs.Sweep.{dropVertex as dropAt, giveInputs as giveRows}
 use Rattle.table.specs.Refusals.{firstRefusal}
 use Rattle.table.specs.Table.{allBelow?, beyondLimits?, downward?, firstFunctions, functionsOf, graphOf, inputsFrom, malformed?, outOfOrder?, outputWords, pairs, rowBelow?, rowsOf, sideOutputs}
@@ -74,7 +74,7 @@ record Computed : Type 0 where
   third-reply : compared (comparisonOf 0 sizeOne words) .reply ≡ Said.size 2 6
 
 computed : Computed
-unfolding answerTo answered beyond? compared graphWords outputsLeft outside? problemOf refusalOf settingBytes settingLeft shortSlice? tableLeft turnedBack outputWords pairs rowsOf sideOutputs malformed? beyondLimits? outOfOrder? downward? allBelow? rowBelow? graphOf functionsOf firstFunctions inputsFrom firstRefusal vertexValues conj constant? constantly input invert same? sweep resultOf anyDropped? cause conclude giveRow go goFor meet multiply openAt pickFrom ready? scanFrom smaller swept topPart turnsLeft turnsOf twinFrom visit dropAt giveRows start look lookAt andThen begin normalise normaliseFrom normaliseRow foldedRow foundRow resolve takesFrom takeAt wakeAt wake has? gone? bare? dropped? open? waits? saidBy foldOf firstVertex ownWords _andThen_ addPart addRow countStep plain run among distinct filter alike? cofactors depends? parts size terminal? firstDifference valueAt
+unfolding answerTo answered beyond? compared graphWords outputsLeft outside? problemOf refusalOf settingBytes settingLeft shortSlice? tableLeft turnedBack outputWords pairs rowsOf sideOutputs malformed? beyondLimits? outOfOrder? downward? allBelow? rowBelow? graphOf functionsOf firstFunctions inputsFrom firstRefusal vertexValues conj constant? constantly input invert same? sweep resultOf conclude giveRow go goFor meet multiply openAt pickFrom ready? scanFrom smaller swept topPart turnsLeft turnsOf twinFrom visit dropAt giveRows start look lookAt andThen begin normalise normaliseFrom normaliseRow foldedRow foundRow resolve takesFrom takeAt wakeAt wake has? gone? bare? dropped? open? waits? saidBy foldOf firstVertex ownWords _andThen_ addPart addRow countStep plain run among distinct filter alike? cofactors depends? parts size terminal? firstDifference valueAt
 computed =
     record { first-accepted = refl; first-reply = refl; first-setting = refl; first-table = refl; second-reply = refl; second-table = refl; third-reply = refl }
 

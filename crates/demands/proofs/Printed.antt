@@ -25,7 +25,7 @@ use Rattle.report_model.proofs.ComparisonLaws.{after-next}
 use Rattle.report_model.proofs.ReportLaws.{long-enough, report-loaded}
 use Rattle.report_model.proofs.RoomLaws.{Roomy, never-refused, outputs-next, roomy-next}
 use Rattle.report_model.specs.Report.{after, comparisonLine, comparisons, firstOf, linesOf, loadRoom, next, programLimits, reported}
-use Rattle.sweep_model.specs.declared.Cause.the-variants.{Idle, Rows, Size, Steps}
+use Rattle.sweep_model.specs.declared.Cause.the-variants.{Rows, Size, Steps}
 use Rattle.table.specs.Table.{inputsOf, outputsOf}
 use lib.ListN.{length, length-map, take}
 use lib.Seq.{take-append-seam, take-at}
@@ -82,7 +82,6 @@ module _ {d e : Netlist} (h : Loadable d e) (old : List ℕ) where
       go (Said.size rows steps) k = says-undecided Size rows steps
       go (Said.rows v rows steps) k = says-undecided (Rows v) rows steps
       go (Said.steps v rows steps) k = says-undecided (Steps v) rows steps
-      go (Said.idle rows steps) k = says-undecided Idle rows steps
 
   -- So is that of each of the program's.
   lines-true : (n : ℕ) (g : Given) → Roomy g → g .output + n ≤ outputsOf (g .table) → Since (tableOf d e old) (g .table)

@@ -63,7 +63,6 @@ module _ {d e : Netlist} (h : Loadable d e) (old : List ℕ) (g : Given) (s : Si
     said-kept (Said.rows v rows steps) m k = (r, too-many-parts d e h old (g .limits .rows) (isEither 1 3) (compared g .marks) (k .0), k .1)
     said-kept (Said.steps v rows steps) m k =
         (r, too-many-steps d e h old (g .limits .steps) (g .output) (g .limits) (λ m. isEither 1 2 m || is 3 m) _ (k .0), k .1, k .2)
-    said-kept (Said.idle rows steps) m k = absurd k
 
   -- Refused or not.
   pub reply-kept : ReplyKept d e (tableOf d e old) g (compared g) (compared g .reply)

@@ -1,11 +1,11 @@
 -- What the rules claim of a comparison's reply, in terms of the files, the table as loaded, and what the comparison left. (RULES 12.3)
 use Prim.Native.Nat.{_<_, ℕ}
-use Rattle.compare_model.specs.Claims.{RowsKept, StepsKept, problemBy}
-use Rattle.compare_model.specs.Compare.{Given, Left, graphWords, refusalOf, settingBytes}
+use Rattle.compare_model.specs.Claims.{RowsKept, StepsKept}
+use Rattle.compare_model.specs.Compare.{Given, Left, refusalOf, settingBytes}
 use Rattle.compare_model.specs.Said.{Said}
 use Rattle.netlist_model.specs.Meaning.{fileAnds, fileValue}
 use Rattle.netlist_model.specs.Netlist.{Netlist}
-use Rattle.sweep_model.specs.Claims.{AfterIdle, And, AtRest, andFunction, andSteps, sum}
+use Rattle.sweep_model.specs.Claims.{And, andFunction, andSteps, sum}
 use Rattle.table.specs.Table.{inputsFrom}
 use Rattle.truth.specs.Parts.{size, together}
 use Rattle.truth.specs.Settings.{numberOf}
@@ -51,12 +51,6 @@ TooManyParts d e limit = limit < together (inputsFrom (d .inputs) 1 (d .inputs) 
 abbrev pub TooManySteps : Netlist → Netlist → ℕ → Type 0
 TooManySteps d e limit = limit < sum (map andSteps (gatesAnds d e))
 
--- "as Idle only under the conditions of 7.10 and 7.11" (RULES 12.3)
-pub record IdleAs (loaded : List ℕ) (given : Given) (left : Left) : Type 0 where
-  pub at-rest : AtRest (problemBy loaded given .first) (length (problemBy loaded given .functions)) (left .marks)
-      (graphWords (left .table)) (graphWords loaded)
-  pub after-idle : AfterIdle (problemBy loaded given) (left .marks)
-
 -- What is said of each reply: "unless it said Rows or Steps; after Steps they are the limit". A refusal is said exactly where one of 10 to 15
 -- applies. (RULES 9.3, 12.3)
 abbrev pub ReplyKept : Netlist → Netlist → List ℕ → Given → Left → Said → Type 0
@@ -75,5 +69,3 @@ ReplyKept d e loaded given left (Said.rows v rows steps) =
     (refusalOf given ≡ 0) × TooManyParts d e (given .limits .rows) × RowsKept loaded given left rows
 ReplyKept d e loaded given left (Said.steps v rows steps) =
     (refusalOf given ≡ 0) × TooManySteps d e (given .limits .steps) × RowsKept loaded given left rows × (steps ≡ given .limits .steps)
-ReplyKept d e loaded given left (Said.idle rows steps) =
-    (refusalOf given ≡ 0) × IdleAs loaded given left × RowsKept loaded given left rows × StepsKept loaded given left steps

@@ -5,7 +5,7 @@ use Rattle.netlist_model.specs.Limits.{edition}
 use Rattle.reply_line.specs.code.Cause.{causeVertex, causeWord}
 use Rattle.reply_line.specs.Line.{lineFor, roomFor}
 use Rattle.report_format.specs.Report.{LINE-ROOM, replyLine}
-use Rattle.sweep_model.specs.declared.Cause.the-variants.{Idle, Rows, Size, Steps}
+use Rattle.sweep_model.specs.declared.Cause.the-variants.{Rows, Size, Steps}
 use Rattle.sweep_model.specs.declared.Cause.{Cause}
 use mathlib.Core.List.{List, []}
 use mathlib.Core.Path.{_≡_, refl}
@@ -16,11 +16,9 @@ pub undecided-line : (output : ℕ) (x : Cause) (rows steps : ℕ) (setting : Li
 undecided-line output Size rows steps setting = refl
 undecided-line output (Rows v) rows steps setting = refl
 undecided-line output (Steps v) rows steps setting = refl
-undecided-line output Idle rows steps setting = refl
 
 -- It needs no room for a setting.
 pub undecided-room : (x : Cause) (rows steps : ℕ) (setting : List ℕ) → roomFor (undecidedBy x rows steps) setting ≡ LINE-ROOM
 undecided-room Size rows steps setting = refl
 undecided-room (Rows v) rows steps setting = refl
 undecided-room (Steps v) rows steps setting = refl
-undecided-room Idle rows steps setting = refl

@@ -16,9 +16,8 @@ settingFor (Said.different rows steps) setting = setting
 settingFor (Said.size rows steps) setting = []
 settingFor (Said.rows v rows steps) setting = []
 settingFor (Said.steps v rows steps) setting = []
-settingFor (Said.idle rows steps) setting = []
 
--- "then a line each": of a reply on an output, with its "reply word (equal, different, size, rows, steps, idle)" and the "vertex named by
+-- "then a line each": of a reply on an output, with its "reply word (equal, different, size, rows, steps)" and the "vertex named by
 -- Rows or Steps". A comparison that is refused has neither file nor line. (RULES 11.3, 11.4)
 abbrev pub lineFor : ℕ → Said → List ℕ → List ℕ
 lineFor output (Said.refused n) setting = refusedLine n 0 0
@@ -27,7 +26,6 @@ lineFor output (Said.different rows steps) setting = replyLine edition output wo
 lineFor output (Said.size rows steps) setting = replyLine edition output word.Size [] None rows steps
 lineFor output (Said.rows v rows steps) setting = replyLine edition output word.Rows [] (At v) rows steps
 lineFor output (Said.steps v rows steps) setting = replyLine edition output word.Steps [] (At v) rows steps
-lineFor output (Said.idle rows steps) setting = replyLine edition output word.Idle [] None rows steps
 
 -- The bytes that the line is sure to fit in.
 abbrev pub roomFor : Said → List ℕ → ℕ

@@ -55,7 +55,6 @@ fn word_of(cause: Cause) -> Word
         Cause::Size => Word::Size,
         Cause::Rows(_) => Word::Rows,
         Cause::Steps(_) => Word::Steps,
-        Cause::Idle => Word::Idle,
     }
 }
 
@@ -66,6 +65,5 @@ fn vertex_of(cause: Cause) -> Vertex
         Cause::Size => Vertex::None,
         Cause::Rows(v) => Vertex::At(v),
         Cause::Steps(v) => Vertex::At(v),
-        Cause::Idle => Vertex::None,
     }
 }

@@ -18,7 +18,6 @@ pub fn put_word(out: &mut [u8], at: usize, word: Word) -> usize
         Word::Size => put(out, at, b"size\t"),
         Word::Rows => put(out, at, b"rows\t"),
         Word::Steps => put(out, at, b"steps\t"),
-        Word::Idle => put(out, at, b"idle\t"),
     }
 }
 

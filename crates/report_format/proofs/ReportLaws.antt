@@ -3,7 +3,7 @@ use Prim.Native.Nat.{ℕ}
 use Rattle.report_format.specs.Report.{lineOf, refusedFields, refusedLine, replyFields, replyLine, settingField, vertexField, wordBytes}
 use Rattle.report_format.specs.declared.Vertex.the-variants.{At, None}
 use Rattle.report_format.specs.declared.Vertex.{Vertex}
-use Rattle.report_format.specs.declared.Word.the-variants.{Different, Equal, Idle, Rows, Size, Steps}
+use Rattle.report_format.specs.declared.Word.the-variants.{Different, Equal, Rows, Size, Steps}
 use Rattle.report_format.specs.declared.Word.{Word}
 use Rattle.text.proofs.NumeralLaws.{decimal-lacks, digits-lack}
 use Rattle.text.proofs.SplitLaws.{lacks-join, splitAt-append, splitAt-first, splitAt-join}
@@ -51,7 +51,6 @@ words-lack Different = (refl, refl)
 words-lack Size = (refl, refl)
 words-lack Rows = (refl, refl)
 words-lack Steps = (refl, refl)
-words-lack Idle = (refl, refl)
 
 -- The line of a reply.
 module _ (edition output : ℕ) (word : Word) (setting : List ℕ) (vertex : Vertex) (rows steps : ℕ) where

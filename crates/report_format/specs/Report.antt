@@ -2,7 +2,7 @@
 use Prim.Native.Nat.{_≤_, ℕ}
 use Rattle.report_format.specs.declared.Vertex.the-variants.{At, None}
 use Rattle.report_format.specs.declared.Vertex.{Vertex}
-use Rattle.report_format.specs.declared.Word.the-variants.{Different, Equal, Idle, Rows, Size, Steps}
+use Rattle.report_format.specs.declared.Word.the-variants.{Different, Equal, Rows, Size, Steps}
 use Rattle.report_format.specs.declared.Word.{Word}
 use Rattle.text.specs.Decimal.{Stored, decimal}
 use Rattle.text.specs.Split.{join}
@@ -29,14 +29,13 @@ headLine =
     ∷ (115 ∷ 116 ∷ 101 ∷ 112 ∷ 115 ∷ [])
     ∷ [])
 
--- "reply word (equal, different, size, rows, steps, idle)" (RULES 11.4)
+-- "reply word (equal, different, size, rows, steps)" (RULES 11.4)
 abbrev pub wordBytes : Word → List ℕ
 wordBytes Equal = 101 ∷ 113 ∷ 117 ∷ 97 ∷ 108 ∷ []
 wordBytes Different = 100 ∷ 105 ∷ 102 ∷ 102 ∷ 101 ∷ 114 ∷ 101 ∷ 110 ∷ 116 ∷ []
 wordBytes Size = 115 ∷ 105 ∷ 122 ∷ 101 ∷ []
 wordBytes Rows = 114 ∷ 111 ∷ 119 ∷ 115 ∷ []
 wordBytes Steps = 115 ∷ 116 ∷ 101 ∷ 112 ∷ 115 ∷ []
-wordBytes Idle = 105 ∷ 100 ∷ 108 ∷ 101 ∷ []
 
 -- "`-` stands for no setting, an empty setting": a setting's bytes as a field. No setting is an empty one. (RULES 11.5)
 abbrev pub settingField : List ℕ → List ℕ

@@ -7,7 +7,6 @@ pub enum Word {
     Size,
     Rows,
     Steps,
-    Idle,
 }
 
 // The vertex that a reply names, if any.

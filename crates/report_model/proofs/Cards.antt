@@ -14,7 +14,7 @@ use Rattle.report_model.specs.Cards.{Cards}
 use Rattle.report_model.specs.Report.{after, comparisonLine, comparisons, linesOf, next, reportOf, reported, shortRoom?}
 use Rattle.sweep_model.specs.Normalise.{foldedRow, foundRow, normalise, normaliseFrom, normaliseRow, resolve, takeAt, takesFrom, wake, wakeAt}
 use Rattle.sweep_model.specs.State.{bare?, dropped?, gone?, has?, open?, waits?}
-use Rattle.sweep_model.specs.Sweep.{andThen, anyDropped?, begin, cause, conclude, giveRow, go, goFor, look, lookAt, meet, multiply, openAt, pickFrom, ready?, resultOf, scanFrom, smaller, start, sweep, swept, topPart, turnsLeft, turnsOf, twinFrom, visit}
+use Rattle.sweep_model.specs.Sweep.{andThen, begin, conclude, giveRow, go, goFor, look, lookAt, meet, multiply, openAt, pickFrom, ready?, resultOf, scanFrom, smaller, start, sweep, swept, topPart, turnsLeft, turnsOf, twinFrom, visit}
 use Rattle.sweep_model.specs.Sweep.{dropVertex, giveInputs}
 use Rattle.table.specs.Refusals.{firstRefusal}
 use Rattle.table.specs.Table.{allBelow?, beyondLimits?, downward?, firstFunctions, functionsOf, graphOf, inputsFrom, malformed?, outOfOrder?, outputWords, pairs, rowBelow?, rowsOf, sideOutputs}
@@ -34,7 +34,7 @@ unfolding askXor checkFile checkFrom below? due? dueAfter finish formed? gatesIn
     buildFile buildPair emptyBuild foldedOrNot foundOrMade literalsFrom countsDiffer? loadResult readResult shortLoad? tallyOf andCount firstRefusal
     tableAfter tableOf tableWords answerTo answered beyond? compared graphWords outputsLeft outside? problemOf refusalOf settingBytes settingLeft
     shortSlice? tableLeft turnedBack outputWords pairs rowsOf sideOutputs malformed? beyondLimits? outOfOrder? downward? allBelow? rowBelow? graphOf
-    functionsOf firstFunctions inputsFrom vertexValues conj constant? constantly input invert same? sweep resultOf anyDropped? cause conclude
+    functionsOf firstFunctions inputsFrom vertexValues conj constant? constantly input invert same? sweep resultOf conclude
     giveRow go goFor meet multiply openAt pickFrom ready? scanFrom smaller swept topPart turnsLeft turnsOf twinFrom visit dropVertex giveInputs
     start look lookAt andThen begin normalise normaliseFrom normaliseRow foldedRow foundRow resolve takesFrom takeAt wakeAt wake has? gone? bare?
     dropped? open? waits? saidBy _andThen_ addPart addRow countStep plain run among distinct filter alike? cofactors depends? parts size terminal?

@@ -20,7 +20,6 @@ setting-short (Said.different rows steps) setting = omega arith
 setting-short (Said.size rows steps) setting = omega arith
 setting-short (Said.rows v rows steps) setting = omega arith
 setting-short (Said.steps v rows steps) setting = omega arith
-setting-short (Said.idle rows steps) setting = omega arith
 
 -- So the line of every reply fits.
 pub room-short : (said : Said) (setting : List ℕ) → roomFor said setting ≤ LINE-ROOM + length setting

@@ -246,6 +246,5 @@ fn show_cause(cause: Cause) {
         Cause::Size => say(b": size\n"),
         Cause::Rows(_) => say(b": rows\n"),
         Cause::Steps(_) => say(b": steps\n"),
-        Cause::Idle => say(b": idle\n"),
     }
 }

@@ -145,7 +145,6 @@ fn kind_of(cause: Cause) -> usize {
         Cause::Size => tally::SIZE,
         Cause::Rows(_) => tally::ROWS,
         Cause::Steps(_) => tally::STEPS,
-        Cause::Idle => tally::IDLE,
     }
 }
 
@@ -164,7 +163,6 @@ fn is_cause(
             let is_used = counts.steps as u64 == asked.steps;
             is_used && mark_of(marks, vertex) == 3
         }
-        Cause::Idle => true,
     }
 }
 

@@ -1,7 +1,7 @@
 // How many replies of each kind came, and how many answers were wrong.
 use libc::STDOUT_FILENO;
 
-pub const KINDS: usize = 8;
+pub const KINDS: usize = 7;
 
 pub const EQUAL: usize = 0;
 
@@ -13,11 +13,9 @@ pub const ROWS: usize = 3;
 
 pub const STEPS: usize = 4;
 
-pub const IDLE: usize = 5;
+pub const REFUSED: usize = 5;
 
-pub const REFUSED: usize = 6;
-
-pub const WRONG: usize = 7;
+pub const WRONG: usize = 6;
 
 pub fn count(tally: &mut [u32; KINDS], kind: usize) {
     tally[kind % KINDS] = std::num::wrapping_add_u32(tally[kind % KINDS], 1);
@@ -39,7 +37,6 @@ pub fn print(pairs: u32, tally: &[u32; KINDS]) {
     print_kind(b"size ", tally, SIZE);
     print_kind(b"rows ", tally, ROWS);
     print_kind(b"steps ", tally, STEPS);
-    print_kind(b"idle ", tally, IDLE);
     print_kind(b"refused ", tally, REFUSED);
     print_kind(b"wrong ", tally, WRONG);
 }

@@ -1,8 +1,7 @@
 -- The whole sweep: its end is the model's answer.
 use Prim.Native.Nat.{ℕ}
-use Rattle.sweep_model.specs.Sweep.{Progress, andThen, cause, go, resultOf, sweep}
-use Rattle.sweep_model.specs.declared.Cause.{Cause}
-use Rattle.sweep_look.specs.code.Cause.{causeBy}
+use Rattle.sweep_model.specs.Sweep.{Progress, andThen, go, resultOf, sweep}
+use Rattle.sweep_model.specs.declared.Cause.the-variants.{Size}
 use Rattle.sweep_state.specs.code.Ending.{verdictOf}
 use Rattle.sweep_state.specs.code.Meet.{Workspace}
 use Rattle.sweep_state.specs.code.Words.{posed}
@@ -24,14 +23,12 @@ abbrev pub endedWith : End → ℕ → ℕ → result.Ended
 endedWith e used steps = record { end = e; used = used; steps = steps }
 
 module _ (t : Task) (used steps : ℕ) (b after : Workspace) {g : Going} (goes : Goes t used steps b after g) where
-  -- None waits: undecided, by the cause.
-  pub rest-answers :
-      {more taken : ℕ} {c : Cause} → g ≡ On more taken → c ≡ causeBy (after .arrays .stages) (t .count)
-      → Rests t used steps b after (endedWith (Undecided c) more taken)
-  unfolding resultOf cause causeBy verdictOf
-  rest-answers h e = λ x o.
+  -- None waits: undecided, by Size.
+  pub rest-answers : {more taken : ℕ} → g ≡ On more taken → Rests t used steps b after (endedWith (Undecided Size) more taken)
+  unfolding resultOf verdictOf
+  rest-answers h = λ x o.
       let r = subst (Goes t used steps b after) h goes x o in
-      record { answer = rw e (ap resultOf (r .reached)); closed = represents-closed (r .represents) tt }
+      record { answer = ap resultOf (r .reached); closed = represents-closed (r .represents) tt }
 
   -- A turn ended the sweep.
   pub turn-answers : {more taken : ℕ} {e : End} → g ≡ Ended e more taken → Rests t used steps b after (endedWith e more taken)

@@ -1,5 +1,5 @@
 // The sweep's code on the working graph: it knows no table header and no file.
-use sweep_look::cause::cause;
+use sweep_model::Cause;
 use sweep_start::start::start;
 use sweep_state::end::End;
 use sweep_state::end::Ended;
@@ -14,7 +14,7 @@ ghost use Rattle.sweep_turn.specs.code.Turn.{RestIn};
 ghost use Rattle.sweep.specs.code.Sweep.{Rests, Sweeps};
 ghost use lib.ListN.{length};
 
-// The turns, and where they come to rest the cause.
+// The turns. Where none waits the reply is Undecided by Size: some vertex is dropped then (turns-dropped in sweep_model), so none is looked for.
 fn finish(
     pairs: &mut [u32],
     look: &mut [u32],
@@ -43,7 +43,7 @@ fn finish(
     );
     match going {
         Going::On { used, steps } => Ended {
-            end: End::Undecided(cause(&stages[..], task.count)),
+            end: End::Undecided(Cause::Size),
             used,
             steps,
         },

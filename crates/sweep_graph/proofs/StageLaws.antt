@@ -3,7 +3,7 @@ use Prim.Native.Nat.{_*_, _+_, _<_, _≤_, suc, zero, ℕ}
 use Rattle.aig.specs.Lookup.{firstWord}
 use Rattle.sweep_graph.specs.code.Stages.{stageWord, stagesFrom, stagesOf, withStage, wordStage}
 use Rattle.sweep_model.specs.Normalise.{wake}
-use Rattle.sweep_model.specs.State.{Stage, again, bare, bare?, dropped, dropped?, gone, gone?, has?, open?, opened, stageOf, waiting, waits?}
+use Rattle.sweep_model.specs.State.{Stage, again, bare, bare?, dropped, gone, gone?, has?, open?, opened, stageOf, waiting, waits?}
 use Rattle.truth.proofs.Booleans.{clash}
 use borrow.Author.Tests.{le-leb, lt-leb, ne-eqb}
 use lib.Dec.{eqb, leb}
@@ -61,10 +61,6 @@ open-word w =
 pub bare-word : (w : ℕ) → eqb w 0 ≡ bare? (wordStage w)
 unfolding bare?
 bare-word w = word-cases (λ w s. eqb w 0 ≡ bare? s) refl refl refl refl refl (λ w h. ne-eqb w 0 (omega arith)) w
-
-pub dropped-word : (w : ℕ) → eqb w 4 ≡ dropped? (wordStage w)
-unfolding dropped?
-dropped-word w = word-cases (λ w s. eqb w 4 ≡ dropped? s) refl refl refl refl refl (λ w h. ne-eqb w 4 (omega arith)) w
 
 pub gone-word : (w : ℕ) → leb 5 w ≡ gone? (wordStage w)
 unfolding gone?

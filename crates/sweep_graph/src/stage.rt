@@ -2,7 +2,7 @@
 ghost use Prim.Native.Nat.{_*_, _<_};
 ghost use Rattle.sweep_graph.specs.code.Stages.{stageWord, withStage, wordStage};
 ghost use Rattle.sweep_model.specs.Normalise.{wake};
-ghost use Rattle.sweep_model.specs.State.{bare?, dropped?, gone?, has?, open?, waits?};
+ghost use Rattle.sweep_model.specs.State.{bare?, gone?, has?, open?, waits?};
 ghost use lib.ListN.{length};
 ghost use mathlib.Core.Path.{_≡_};
 
@@ -61,12 +61,6 @@ pub fn is_bare(stage: u32) -> bool
     ensures { λ r. ⌜ r ≡ bare? (wordStage stage) ⌝ }
 {
     stage == BARE
-}
-
-pub fn is_dropped(stage: u32) -> bool
-    ensures { λ r. ⌜ r ≡ dropped? (wordStage stage) ⌝ }
-{
-    stage == DROPPED
 }
 
 pub fn is_gone(stage: u32) -> bool

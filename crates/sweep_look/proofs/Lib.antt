@@ -1,2 +1,1 @@
-pub mod CauseLaws
 pub mod LookLaws

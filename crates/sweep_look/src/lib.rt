@@ -1,3 +1,2 @@
-// Whether a sweep ends: the two literals looked at, and why it is undecided.
-pub mod cause;
+// Whether a sweep ends: the two literals looked at.
 pub mod look;

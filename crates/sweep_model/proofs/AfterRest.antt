@@ -1,25 +1,25 @@
--- What holds after Size and after Idle, and that Size is not said where the size limit suffices.
+-- What holds after Size, and that Size is not said where the size limit suffices.
 use Prim.Native.Nat.{_*_, _<_, _≤_, ℕ}
 use Rattle.aig.specs.Literal.{vertexOf}
 use Rattle.aig.specs.Lookup.{firstWord, secondWord}
-use Rattle.sweep_model.proofs.Halt.{Resting, sweep-quiet}
-use Rattle.sweep_model.proofs.NeverIdle.{Lacking, Rest, is-bare, is-dropped, never-idle, operand-lacks, sweep-rests}
+use Rattle.sweep_model.proofs.Halt.{sweep-quiet}
 use Rattle.sweep_model.proofs.Replies.{reachable-keeps}
 use Rattle.sweep_model.proofs.ReplyLaws.{marked-unmerged, size-some, two-large, two-made}
 use Rattle.sweep_model.proofs.Rows.{resolve-first, resolve-stays, resolve-vertex}
+use Rattle.sweep_model.proofs.SomeDropped.{Lacking, Rest, is-bare, is-dropped, operand-lacks, sweep-rests}
 use Rattle.sweep_model.proofs.Sources.{Recorded, Source, markAt, sources-keep}
 use Rattle.sweep_model.proofs.Stages.{bare-lacks, dropped-lacks, stage-cases}
 use Rattle.sweep_model.proofs.Starving.{first-alive, second-alive}
 use Rattle.sweep_model.proofs.Steady.{alive-unmerged, alive-within}
 use Rattle.sweep_model.proofs.Takes.{target}
 use Rattle.sweep_model.proofs.Tidy.{equal-merged, made-merged}
-use Rattle.sweep_model.specs.Claims.{AfterIdle, AtRest, Excused, Made, Stuck, TookOne, by-first, by-merging, by-second, by-taking}
+use Rattle.sweep_model.specs.Claims.{AtRest, Excused, Made, Stuck, TookOne, by-first, by-merging, by-second, by-taking}
 use Rattle.sweep_model.specs.Fit.{Fit, vertexCount}
 use Rattle.sweep_model.specs.Normalise.{merged?, resolve}
 use Rattle.sweep_model.specs.code.Reachable.{Reachable}
 use Rattle.sweep_model.specs.State.{Problem, State, bare?, dropped?, functionOf, gone?, has?, stageOf}
 use Rattle.sweep_model.specs.Sweep.{sweep, undecided}
-use Rattle.sweep_model.specs.declared.Cause.the-variants.{Idle, Size}
+use Rattle.sweep_model.specs.declared.Cause.the-variants.{Size}
 use Rattle.truth.proofs.Booleans.{bool-cases, clash}
 use Rattle.truth.specs.Parts.{size}
 use borrow.Author.Tests.{eqb-true}
@@ -126,17 +126,13 @@ module _ {p : Problem} {entry : List ℕ} {s : State} (some : 1 ≤ p .first) (r
           by-taking (has-taken v (m .made) (λ k. omega arith) (origins .sources v (λ k. omega (arith, m .made, some)) i))
 
 module _ {p : Problem} {entry : List ℕ} (fit : Fit p entry) where
-  -- After Size and Idle every input is marked 1, and every AND marked 0 has its excuse.
+  -- After Size every input is marked 1, and every AND marked 0 has its excuse.
   pub after-rest :
-      Resting (sweep p entry .verdict)
+      sweep p entry .verdict ≡ undecided Size
       → AtRest (p .first) (vertexCount p) (sweep p entry .left .marks) (sweep p entry .left .rows) (sweep p entry .left .rows)
-  after-rest r =
-      rest-claims (fit .well-formed .some-first) (sweep-rests fit r) (sweep-quiet fit (reachable-keeps fit) r .0 .reached .kept)
-      (sweep-quiet fit (sources-keep fit) r .0 .reached .kept)
-
-  -- After Idle the conditions of the rules hold: it is never said.
-  pub after-idle : sweep p entry .verdict ≡ undecided Idle → AfterIdle p (sweep p entry .left .marks)
-  after-idle e = absurd (never-idle fit e)
+  after-rest e =
+      rest-claims (fit .well-formed .some-first) (sweep-rests fit e) (sweep-quiet fit (reachable-keeps fit) e .reached .kept)
+      (sweep-quiet fit (sources-keep fit) e .reached .kept)
 
   -- Size is not said where no AND that was not merged at entry is larger than the size limit.
   pub size-suffices :

@@ -1,16 +1,17 @@
--- What the searches of the sweep find: the twin of a vertex, the vertex that is picked, and no vertex that is dropped.
+-- What the searches of the sweep find: the twin of a vertex and the vertex that is picked; and a vertex that is dropped, or none.
 use Prim.Native.Nat.{_+_, _-_, _<_, _≤_, suc, zero, ℕ}
 use Rattle.sweep_model.proofs.Turns.{no-turns, waiting-turns}
 use Rattle.sweep_model.specs.Choices.{Opens}
 use Rattle.sweep_model.specs.State.{Problem, Stage, dropped?, functionOf, has?, stageOf, waits?}
 use Rattle.sweep_model.specs.Sweep.{Candidate, anyDropped?, at, none, pickFrom, smaller, turnsLeft, twinFrom}
-use Rattle.truth.proofs.Booleans.{and-left, and-right, clash, not-true, or-left, or-right}
+use Rattle.truth.proofs.Booleans.{and-left, and-right, clash, not-true, or-cases, or-left, or-right}
 use Rattle.truth.specs.Parts.{alike?, size}
 use borrow.Author.Tests.{leb-false, leb-true}
 use lib.Dec.{leb}
+use lib.ListN.{length}
 use mathlib.Core.Bool.{Bool, _&&_, cond, false, true}
 use mathlib.Core.List.{List, [], _∷_}
-use mathlib.Core.Logic.{_⊎_, inl, inr}
+use mathlib.Core.Logic.{_⊎_, inl, inr, ⊎-elim}
 use mathlib.Core.Path.{_∙_, _≡_, ap, refl, subst, sym}
 use native.Mathlib.Decide.{ℕ-discrete}
 use native.Mathlib.Omega.{arith}
@@ -207,3 +208,10 @@ none-dropped [] e v = refl
 none-dropped (x ∷ stages) e zero = not-true (dropped? x) (λ k. clash (or-left (dropped? x) (anyDropped? stages) k) e)
 none-dropped (x ∷ stages) e (suc v) =
     none-dropped stages (not-true (anyDropped? stages) (λ k. clash (or-right (dropped? x) (anyDropped? stages) k) e)) v
+
+-- Where some vertex passes for dropped, here is one.
+pub some-dropped : (stages : List Stage) → anyDropped? stages ≡ true → (v : ℕ) × (v < length stages) × (dropped? (stageOf stages v) ≡ true)
+unfolding anyDropped?
+some-dropped [] e = clash e refl
+some-dropped (x ∷ stages) e =
+    ⊎-elim (λ i. (0, omega arith, i)) (λ i. let d = some-dropped stages i in (suc (d .0), omega (arith, d .1), d .2)) (or-cases (dropped? x) (anyDropped? stages) e)

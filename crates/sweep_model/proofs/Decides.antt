@@ -1,7 +1,6 @@
 -- Limits that suffice decide: the reply is Equal or Different, and Equal exactly where the two functions are equal.
 use Prim.Native.Nat.{_<_, _≤_, ℕ}
 use Rattle.sweep_model.proofs.AfterRest.{size-suffices}
-use Rattle.sweep_model.proofs.NeverIdle.{never-idle}
 use Rattle.sweep_model.proofs.ReplyLaws.{andsUnmerged, functionsUnmerged, rows-short, steps-short}
 use Rattle.sweep_model.proofs.Right.{different-right, equal-right}
 use Rattle.sweep_model.specs.Claims.{andSteps, sum}
@@ -9,7 +8,7 @@ use Rattle.sweep_model.specs.Fit.{Fit, vertexCount}
 use Rattle.sweep_model.specs.Normalise.{merged?}
 use Rattle.sweep_model.specs.State.{Problem, functionOf, literalFunction}
 use Rattle.sweep_model.specs.Sweep.{Verdict, different, equal, sweep, undecided}
-use Rattle.sweep_model.specs.declared.Cause.the-variants.{Idle, Rows, Size, Steps}
+use Rattle.sweep_model.specs.declared.Cause.the-variants.{Rows, Size, Steps}
 use Rattle.truth.specs.Parts.{size, together}
 use Rattle.truth.specs.Truth.{Setting, Truth, valueAt}
 use mathlib.Core.Bool.{false}
@@ -40,7 +39,6 @@ module _ {p : Problem} {entry : List ℕ} (fit : Fit p entry) (enough : Suffices
       go (undecided Size) e = absurd (size-suffices fit (enough .small) e)
       go (undecided (Rows v)) e = absurd (omega (arith, rows-short fit v e, enough .few-rows))
       go (undecided (Steps v)) e = absurd (omega (arith, steps-short fit v e, enough .few-steps))
-      go (undecided Idle) e = absurd (never-idle fit e)
 
   -- It is Equal exactly where the two functions are equal.
   pub decides-equal : (sweep p entry .verdict ≡ equal) ↔ (literalFunction p (p .left) ≡ literalFunction p (p .right))

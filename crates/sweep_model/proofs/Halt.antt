@@ -1,20 +1,14 @@
--- Where none waits: what the steps of the sweep keep holds of the state that is left after Size and Idle.
+-- Where none waits: what the steps of the sweep keep holds of the state that is left after Size.
 use Prim.Native.Nat.{ℕ}
 use Rattle.product_model.proofs.Cases.{impossible}
 use Rattle.sweep_model.proofs.Induction.{Keeps, Place, Quiet, sweep-keeps}
 use Rattle.sweep_model.specs.Fit.{Fit}
 use Rattle.sweep_model.specs.State.{Problem, State}
-use Rattle.sweep_model.specs.Sweep.{Verdict, anyDropped?, cause, different, equal, sweep, undecided}
-use Rattle.sweep_model.specs.declared.Cause.the-variants.{Idle, Rows, Size, Steps}
+use Rattle.sweep_model.specs.Sweep.{Verdict, different, equal, sweep, undecided}
+use Rattle.sweep_model.specs.declared.Cause.the-variants.{Rows, Size, Steps}
 use Rattle.truth.specs.Truth.{Setting}
-use mathlib.Core.Bool.{Bool, cond, false, true}
 use mathlib.Core.List.{List}
-use mathlib.Core.Logic.{_⊎_, inl, inr}
-use mathlib.Core.Path.{_≡_, refl}
-
--- A verdict by Size or Idle.
-abbrev pub Resting : Verdict → Type 0
-Resting x = (x ≡ undecided Size) ⊎ (x ≡ undecided Idle)
+use mathlib.Core.Path.{_≡_}
 
 -- P holds of the state that a verdict leaves, if the verdict came because none waits.
 data Halted (P : State → Type 0) : Verdict → State → Type 0 where
@@ -22,19 +16,15 @@ data Halted (P : State → Type 0) : Verdict → State → Type 0 where
   says-different : {x : Setting} {s : State} → Halted P (different x) s
   says-rows : {v : ℕ} {s : State} → Halted P (undecided (Rows v)) s
   says-steps : {v : ℕ} {s : State} → Halted P (undecided (Steps v)) s
-  rested : {s : State} → P s → Halted P (undecided (cause s)) s
+  rested : {s : State} → P s → Halted P (undecided Size) s
 
--- After Size and Idle it came so.
-at-rest : {P : State → Type 0} {x : Verdict} {s : State} → Halted P x s → Resting x → P s × (x ≡ undecided (cause s))
-at-rest says-equal (inl e) = impossible (cc)
-at-rest says-equal (inr e) = impossible (cc)
-at-rest says-different (inl e) = impossible (cc)
-at-rest says-different (inr e) = impossible (cc)
-at-rest says-rows (inl e) = impossible (cc)
-at-rest says-rows (inr e) = impossible (cc)
-at-rest says-steps (inl e) = impossible (cc)
-at-rest says-steps (inr e) = impossible (cc)
-at-rest (rested h) r = (h, refl)
+-- After Size it came so.
+at-rest : {P : State → Type 0} {x : Verdict} {s : State} → Halted P x s → x ≡ undecided Size → P s
+at-rest says-equal e = impossible (cc)
+at-rest says-different e = impossible (cc)
+at-rest says-rows e = impossible (cc)
+at-rest says-steps e = impossible (cc)
+at-rest (rested h) e = h
 
 module _ {p : Problem} {entry : List ℕ} (fit : Fit p entry) {R : Place → State → Type 0} {W : Verdict → State → Type 0} (K : Keeps p entry R W) where
   quiet-keeps : Keeps p entry R (Halted (Quiet fit K))
@@ -58,15 +48,6 @@ module _ {p : Problem} {entry : List ℕ} (fit : Fit p entry) {R : Place → Sta
         rests = λ n s h c e r. rested (record { turns = n; reached = record { steady = h; scanned = c; kept = r }; none-waits = e });
       }
 
-  -- After Size and Idle the turns have ended and none waits; the cause is read off the state that is left.
-  pub sweep-quiet : Resting (sweep p entry .verdict) → Quiet fit K (sweep p entry .left) × (sweep p entry .verdict ≡ undecided (cause (sweep p entry .left)))
-  sweep-quiet r = at-rest (sweep-keeps fit quiet-keeps) r
-
--- The cause is Idle where none is dropped.
-pub cause-idle : (s : State) → undecided Idle ≡ undecided (cause s) → anyDropped? (s .stages) ≡ false
-unfolding cause
-cause-idle s e = go (anyDropped? (s .stages)) e
-  where
-    go : (b : Bool) → undecided Idle ≡ undecided (cond b Size Idle) → b ≡ false
-    go true k = impossible (cc)
-    go false k = refl
+  -- After Size the turns have ended and none waits.
+  pub sweep-quiet : sweep p entry .verdict ≡ undecided Size → Quiet fit K (sweep p entry .left)
+  sweep-quiet e = at-rest (sweep-keeps fit quiet-keeps) e

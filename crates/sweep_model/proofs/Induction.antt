@@ -10,8 +10,8 @@ use Rattle.sweep_model.specs.Fit.{Fit, vertexCount}
 use Rattle.sweep_model.specs.Normalise.{normalise}
 use Rattle.sweep_model.specs.State.{Problem, State, bare?, functionOf, gone?, literalFunction, open?, stageOf, withBook, withMark}
 use Rattle.sweep_model.specs.code.Steady.{Due, Giving, Scanning, Steady, Unsettled, haveNow?, leftNow, productOf, rightNow}
-use Rattle.sweep_model.specs.Sweep.{Candidate, Progress, Verdict, andThen, at, begin, cause, conclude, different, dropVertex, ends, equal, giveInputs, giveRow, givenBack, go, goFor, look, lookAt, meet, multiply, none, on, openAt, pickFrom, ready?, resultOf, scanFrom, start, sweep, swept, topPart, turnsLeft, twinFrom, undecided, visit}
-use Rattle.sweep_model.specs.declared.Cause.the-variants.{Rows, Steps}
+use Rattle.sweep_model.specs.Sweep.{Candidate, Progress, Verdict, andThen, at, begin, conclude, different, dropVertex, ends, equal, giveInputs, giveRow, givenBack, go, goFor, look, lookAt, meet, multiply, none, on, openAt, pickFrom, ready?, resultOf, scanFrom, start, sweep, swept, topPart, turnsLeft, twinFrom, undecided, visit}
+use Rattle.sweep_model.specs.declared.Cause.the-variants.{Rows, Size, Steps}
 use Rattle.truth.proofs.Booleans.{and-left, and-right}
 use Rattle.truth.specs.Distinct.{among}
 use Rattle.truth.specs.Parts.{alike?, size}
@@ -70,7 +70,7 @@ pub record Keeps (p : Problem) (entry : List ℕ) (R : Place → State → Type 
       → W (undecided (Steps v)) (withMark v 3 (withBook (givenBack (s .book) b) s))
   -- None waits.
   pub rests : (n : ℕ) (s : State) → Steady p entry s → Scanning p n (vertexCount p) s → pickFrom p 0 (s .stages) ≡ none → R (scanning n (vertexCount p)) s
-      → W (undecided (cause s)) s
+      → W (undecided Size) s
 
 -- What has to be shown so that W holds of the verdict and the state at the end, where nothing but steadiness is asked of the states before.
 pub record Endings (p : Problem) (entry : List ℕ) (W : Verdict → State → Type 0) : Type 0 where
@@ -82,7 +82,7 @@ pub record Endings (p : Problem) (entry : List ℕ) (W : Verdict → State → T
   pub lacks-input-row : (v : ℕ) (s : State) → Steady p entry s → W (undecided (Rows v)) (withMark v 3 s)
   pub lacks-row : (v : ℕ) (b : Book) (s : State) → Steady p entry s → W (undecided (Rows v)) (withMark v 3 (withBook (givenBack (s .book) b) s))
   pub lacks-step : (v : ℕ) (b : Book) (s : State) → Steady p entry s → W (undecided (Steps v)) (withMark v 3 (withBook (givenBack (s .book) b) s))
-  pub rests : (s : State) → Steady p entry s → W (undecided (cause s)) s
+  pub rests : (s : State) → Steady p entry s → W (undecided Size) s
 
 -- Such endings are one way to keep: nothing is asked of the states before.
 pub endings-keep : {p : Problem} {entry : List ℕ} {W : Verdict → State → Type 0} → Endings p entry W → Keeps p entry (λ place s. Unit {0}) W

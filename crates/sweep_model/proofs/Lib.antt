@@ -22,10 +22,10 @@ pub mod Apart
 pub mod Accounts
 pub mod Reachable
 pub mod Replies
-pub mod ReplyLaws
 pub mod Halt
 pub mod Starving
-pub mod NeverIdle
+pub mod SomeDropped
+pub mod ReplyLaws
 pub mod Sources
 pub mod AfterRest
 pub mod Decides

@@ -1,5 +1,5 @@
 -- Rows, steps and marks after every reply.
-use Prim.Native.Nat.{_+_, _<_, _≤_, suc, ℕ}
+use Prim.Native.Nat.{_+_, _<_, _≤_, ℕ}
 use Rattle.product_model.proofs.Cases.{impossible}
 use Rattle.product_model.proofs.Ran.{ShortOfRows, ShortOfSteps, is-short-of-rows, is-short-of-steps}
 use Rattle.product_model.proofs.Store.{rows-together}
@@ -19,12 +19,12 @@ use Rattle.sweep_model.specs.Claims.{And, Names, andSteps, andsOf, by-ro
 use Rattle.sweep_model.specs.Fit.{Fit, vertexCount}
 use Rattle.sweep_model.specs.Normalise.{wasMerged?}
 use Rattle.sweep_model.specs.code.Reachable.{Accounted, AllStored, Apart, InputsMarked, MarkFits, Reachable, StageFits}
-use Rattle.sweep_model.specs.State.{Problem, Stage, State, bare?, dropped?, functionOf, has?, stageOf, withBook, withMark}
-use Rattle.sweep_model.specs.code.Steady.{Due, Giving, Scanning, Steady, productOf}
-use Rattle.sweep_model.specs.Sweep.{Verdict, anyDropped?, cause, different, equal, givenBack, undecided}
-use Rattle.sweep_model.specs.declared.Cause.the-variants.{Idle, Rows, Size, Steps}
+use Rattle.sweep_model.specs.State.{Problem, Stage, State, bare?, functionOf, has?, stageOf, withBook, withMark}
+use Rattle.sweep_model.specs.code.Steady.{Due, Giving, Scanning, productOf}
+use Rattle.sweep_model.specs.Sweep.{Verdict, different, equal, givenBack, undecided}
+use Rattle.sweep_model.specs.declared.Cause.the-variants.{Rows, Size, Steps}
 use Rattle.sweep_model.specs.declared.Cause.{Cause}
-use Rattle.truth.proofs.Booleans.{clash, or-cases}
+use Rattle.truth.proofs.Booleans.{clash}
 use Rattle.truth.proofs.Parts.{alike-sameness}
 use Rattle.truth.proofs.Together.{part-all}
 use Rattle.truth.specs.Parts.{alike?, parts, together}
@@ -34,8 +34,8 @@ use lib.Dec.{eqb}
 use lib.ListN.{List·getD-eq-default, drop, getD, length, set}
 use lib.Seq.{getD-drop, getD-set-other, getD-set-same}
 use mathlib.Core.Bool.{Bool, _||_, cond, false, or-false, true}
-use mathlib.Core.List.{List, [], _∷_, map}
-use mathlib.Core.Logic.{_↔_, _≢_, _⊎_, inl, inr, ⊎-elim}
+use mathlib.Core.List.{List, _∷_, map}
+use mathlib.Core.Logic.{_↔_, _≢_}
 use mathlib.Core.Path.{_∙_, _≡_, ap, refl, sym}
 use native.Mathlib.Decide.{decLt, ℕ-discrete}
 use native.Mathlib.Omega.{arith}
@@ -45,10 +45,6 @@ pub data Spent (p : Problem) (entry marks : List ℕ) (book : Book) : Verdict �
   in-full : {x : Verdict} → ((v : ℕ) → Names x v → ⊥) → book .steps ≡ stepsMarked p entry marks → Spent p entry marks book x
   no-row : {v : ℕ} → p .limits .rows < rowsMarkedWithLast p marks → Spent p entry marks book (undecided (Rows v))
   no-step : {v : ℕ} → book .steps ≡ p .limits .steps → p .limits .steps < stepsMarkedWithLast p entry marks → Spent p entry marks book (undecided (Steps v))
-
--- Some vertex is marked 2.
-abbrev pub SomeLarge : Problem → List ℕ → Type 0
-SomeLarge p marks = (v : ℕ) × (v < vertexCount p) × (getD marks v 0 ≡ 2)
 
 -- What holds of a verdict and of the state that it leaves.
 pub record Ended (p : Problem) (entry : List ℕ) (x : Verdict) (s : State) : Type 0 where
@@ -62,7 +58,6 @@ pub record Ended (p : Problem) (entry : List ℕ) (x : Verdict) (s : State) : Ty
   pub inputs : (v : ℕ) → 1 ≤ v → v < p .first → (getD (s .marks) v 0 ≡ 1) ↔ (has? (stageOf (s .stages) v) ≡ true)
   pub inputs-first : (v : ℕ) → p .first ≤ v → getD (s .marks) v 0 ≢ 0 → InputsMarked p (s .marks)
   pub all-inputs : (c : Cause) → x ≡ undecided c → ((v : ℕ) → c ≡ Rows v → p .first ≤ v) → InputsMarked p (s .marks)
-  pub some-large : x ≡ undecided Size → SomeLarge p (s .marks)
 
 -- A verdict names one vertex at most.
 pub names-one : {x : Verdict} {u v : ℕ} → Names x u → Names x v → u ≡ v
@@ -76,13 +71,6 @@ input-marked {x = x} {m = m} f l h = go (has? x) (f .input l h)
     go : (b : Bool) → m ≡ cond b 1 0 → (m ≡ 1) ↔ (b ≡ true)
     go true e = (λ i. refl, λ i. e)
     go false e = (λ i. absurd (omega arith), λ i. clash i refl)
-
--- A dropped vertex among the stages.
-some-dropped : (stages : List Stage) → anyDropped? stages ≡ true → (v : ℕ) × (v < length stages) × (dropped? (stageOf stages v) ≡ true)
-unfolding anyDropped?
-some-dropped [] e = clash e refl
-some-dropped (x ∷ stages) e =
-    ⊎-elim (λ i. (0, omega arith, i)) (λ i. let d = some-dropped stages i in (suc (d .0), omega (arith, d .1), d .2)) (or-cases (dropped? x) (anyDropped? stages) e)
 
 -- A vertex marked 1 has its rows.
 pub marked-stored :
@@ -127,9 +115,9 @@ module _ {p : Problem} {entry : List ℕ} where
   -- A verdict that names no vertex.
   settled :
       (x : Verdict) (s : State) → Reachable p entry s → ((v : ℕ) → Names x v → ⊥)
-      → ((c : Cause) → x ≡ undecided c → ((v : ℕ) → c ≡ Rows v → p .first ≤ v) → InputsMarked p (s .marks)) → (x ≡ undecided Size → SomeLarge p (s .marks))
+      → ((c : Cause) → x ≡ undecided c → ((v : ℕ) → c ≡ Rows v → p .first ≤ v) → InputsMarked p (s .marks))
       → Ended p entry x s
-  settled x s r nameless all large =
+  settled x s r nameless all =
       record {
         proper = r .accounted .proper;
         holds = r .accounted .holds;
@@ -141,13 +129,12 @@ module _ {p : Problem} {entry : List ℕ} where
         inputs = λ v l h. input-marked (r .fits v) l h;
         inputs-first = r .inputs-first;
         all-inputs = all;
-        some-large = large;
       }
 
   -- Equal and Different.
   pub decided-ends : (x : Verdict) (s : State) → Reachable p entry s → ((c : Cause) → x ≡ undecided c → ⊥) → Ended p entry x s
   decided-ends x s r decided =
-      settled x s r (λ v n. unnamed n decided) (λ c e h. absurd (decided c e)) (λ e. absurd (decided Size e))
+      settled x s r (λ v n. unnamed n decided) (λ c e h. absurd (decided c e))
     where
       unnamed : {x : Verdict} {v : ℕ} → Names x v → ((c : Cause) → x ≡ undecided c → ⊥) → ⊥
       unnamed {v = v} by-rows d = d (Rows v) refl
@@ -162,9 +149,9 @@ module _ {p : Problem} {entry : List ℕ} where
     named :
         (x : Verdict) (steps : ℕ) → Names x v → (p .first ≤ v → InputsMarked p (set (s .marks) v 3)) → steps ≤ p .limits .steps
         → Spent p entry (set (s .marks) v 3) (record { store = s .book .store; steps = steps }) x
-        → ((c : Cause) → x ≡ undecided c → ((v : ℕ) → c ≡ Rows v → p .first ≤ v) → InputsMarked p (set (s .marks) v 3)) → (x ≡ undecided Size → ⊥)
+        → ((c : Cause) → x ≡ undecided c → ((v : ℕ) → c ≡ Rows v → p .first ≤ v) → InputsMarked p (set (s .marks) v 3))
         → Ended p entry x (withMark v 3 (withBook (record { store = s .book .store; steps = steps }) s))
-    named x steps n made few spent all large =
+    named x steps n made few spent all =
         record {
           proper = record { no-repeats = r .accounted .proper .no-repeats; rows = r .accounted .proper .rows; taken = few };
           holds = record { members = holds-now (r .accounted) (r .steady .marked) v within unmarked 3 refl .members };
@@ -199,7 +186,6 @@ module _ {p : Problem} {entry : List ℕ} where
                 | no h ↦ made (omega arith)
               ];
           all-inputs = all;
-          some-large = λ e. absurd (large e);
         }
       where
         inside : v < length (s .marks)
@@ -218,7 +204,7 @@ module _ {p : Problem} {entry : List ℕ} (fit : Fit p entry) where
         named s r v (due-within due) (due-nonzero fit due r) (due .is-bare) (due-entry fit due r) (undecided (Rows v)) (b .steps) by-rows (λ l. due-inputs fit due r 3) (R .grown .proper .taken)
         (no-row
         (rw (← (last-rows (r .accounted) (r .steady .marked) v (due-within due) (due-unmarked fit due r))) (rows-together (functionOf p v) (r .accounted .holds) R)))
-        (λ c i h. due-inputs fit due r 3) (λ i. impossible (cc))
+        (λ c i h. due-inputs fit due r 3)
       where
         R : ShortOfRows (p .limits .rows) (p .limits .steps) (parts (functionOf p v)) 1 (andSteps (andAt p entry v)) (s .book) b
         R = is-short-of-rows (product-ran fit due (r .stored) (r .accounted .proper)) e
@@ -229,7 +215,7 @@ module _ {p : Problem} {entry : List ℕ} (fit : Fit p entry) where
         named s r v (due-within due) (due-nonzero fit due r) (due .is-bare) (due-entry fit due r) (undecided (Steps v)) (b .steps) by-steps (λ l. due-inputs fit due r 3) (S .grown .proper .taken)
         (no-step (S .full)
         (rw (last-steps (r .accounted) (r .steady .marked) v (due-within due) (due-unmarked fit due r) (due .made)) (S .over)))
-        (λ c i h. due-inputs fit due r 3) (λ i. impossible (cc))
+        (λ c i h. due-inputs fit due r 3)
       where
         S : ShortOfSteps (p .limits .rows) (p .limits .steps) (parts (functionOf p v)) (andSteps (andAt p entry v)) (s .book) b
         S = is-short-of-steps (product-ran fit due (r .stored) (r .accounted .proper)) e
@@ -243,7 +229,7 @@ module _ {p : Problem} {entry : List ℕ} (fit : Fit p entry) where
       named s r v within (λ i. omega arith) is-bare (first-unmerged (p .first) entry v h) (undecided (Rows v)) (s .book .steps) by-rows (λ l. absurd (omega arith)) (r .accounted .proper .taken)
       (no-row
       (rw (← (last-rows (r .accounted) (r .steady .marked) v within (r .fits v .bare-unmarked is-bare))) (rows-together (functionOf p v) (r .accounted .holds) R)))
-      (λ c i k. let j : c ≡ Rows v = cc in absurd (omega (arith, k v j))) (λ i. impossible (cc))
+      (λ c i k. let j : c ≡ Rows v = cc in absurd (omega (arith, k v j)))
     where
       within : v < vertexCount p
       within = omega (arith, fit .well-formed .first-within)
@@ -255,19 +241,8 @@ module _ {p : Problem} {entry : List ℕ} (fit : Fit p entry) where
       R = is-short-of-rows (input-row-ran (fit .well-formed) s (r .accounted .proper) v l h) e
 
   -- None waits.
-  rest-ends : {n : ℕ} (s : State) → Steady p entry s → Scanning p n (vertexCount p) s → Reachable p entry s → Ended p entry (undecided (cause s)) s
-  unfolding cause
-  rest-ends s h c r = go (anyDropped? (s .stages)) refl
-    where
-      unnamed : {x : Cause} {v : ℕ} → Names (undecided x) v → (x ≡ Size) ⊎ (x ≡ Idle) → ⊥
-      unnamed by-rows i = ⊎-elim (λ j. impossible (cc)) (λ j. impossible (cc)) i
-      unnamed by-steps i = ⊎-elim (λ j. impossible (cc)) (λ j. impossible (cc)) i
-
-      go : (b : Bool) → anyDropped? (s .stages) ≡ b → Ended p entry (undecided (cond b Size Idle)) s
-      go true e =
-          settled (undecided Size) s r (λ v m. unnamed m (inl refl)) (λ x i k. scanning-inputs c r)
-          (λ i. let d = some-dropped (s .stages) e in (d .0, omega (arith, d .1, h .staged .long), r .fits (d .0) .dropped-two (d .2)))
-      go false e = settled (undecided Idle) s r (λ v m. unnamed m (inr refl)) (λ x i k. scanning-inputs c r) (λ i. impossible (cc))
+  rest-ends : {n : ℕ} (s : State) → Scanning p n (vertexCount p) s → Reachable p entry s → Ended p entry (undecided Size) s
+  rest-ends s c r = settled (undecided Size) s r (λ v m. elim m [ ]) (λ x i k. scanning-inputs c r)
 
   -- Each step of the sweep keeps it.
   pub reachable-keeps : Keeps p entry (λ place s. Reachable p entry s) (Ended p entry)
@@ -288,5 +263,5 @@ module _ {p : Problem} {entry : List ℕ} (fit : Fit p entry) where
         merges = λ n v w b s d e f t r. merged-reachable fit d r b e f w t;
         lacks-row = λ n v b s d e r. row-ends d r b e;
         lacks-step = λ n v b s d e r. step-ends d r b e;
-        rests = λ n s h c e r. rest-ends s h c r;
+        rests = λ n s h c e r. rest-ends s c r;
       }

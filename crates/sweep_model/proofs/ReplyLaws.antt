@@ -3,11 +3,14 @@ use Prim.Native.Nat.{_+_, _-_, _<_, _≤_, suc, zero, ℕ}
 use Rattle.product_model.proofs.Store.{holds-rows}
 use Rattle.product_model.specs.code.Books.{Stored}
 use Rattle.sweep_model.proofs.Apart.{apart-unlike, apart-varies}
+use Rattle.sweep_model.proofs.Choices.{some-dropped}
+use Rattle.sweep_model.proofs.Halt.{sweep-quiet}
 use Rattle.sweep_model.proofs.Induction.{sweep-keeps}
 use Rattle.sweep_model.proofs.Inputs.{own-part, part-own}
 use Rattle.sweep_model.proofs.Kept.{sweep-steady}
 use Rattle.sweep_model.proofs.Marked.{chosenFrom, marked-chosen, marked-part, sum-sublist, together-sublist}
-use Rattle.sweep_model.proofs.Replies.{Ended, SomeLarge, Spent, in-full, marked-stored, no-row, no-step, reachable-keeps}
+use Rattle.sweep_model.proofs.Replies.{Ended, Spent, in-full, marked-stored, no-row, no-step, reachable-keeps}
+use Rattle.sweep_model.proofs.SomeDropped.{rest-dropped, sweep-rests}
 use Rattle.sweep_model.proofs.Stages.{has-not-gone}
 use Rattle.sweep_model.proofs.Steady.{alive-within}
 use Rattle.sweep_model.proofs.Tidy.{made-merged}
@@ -102,7 +105,7 @@ module _ {p : Problem} {entry : List ℕ} (fit : Fit p entry) where
   pub inputs-first : (v : ℕ) → p .first ≤ v → markLeft p entry v ≢ 0 → InputsMarked p (leftBy p entry .marks)
   inputs-first = sweep-ended .inputs-first
 
-  -- After Size, Idle and Steps, and after Rows at a made vertex, every input is marked 1.
+  -- After Size and Steps, and after Rows at a made vertex, every input is marked 1.
   pub inputs-marked :
       (c : Cause) → sweep p entry .verdict ≡ undecided c → ((v : ℕ) → c ≡ Rows v → p .first ≤ v) → InputsMarked p (leftBy p entry .marks)
   inputs-marked = sweep-ended .all-inputs
@@ -210,9 +213,12 @@ module _ {p : Problem} {entry : List ℕ} (fit : Fit p entry) where
         go {v} (in-full n i) = absurd (n v by-steps)
         go (no-step i h) = h
 
-  -- After Size some vertex is marked 2.
-  pub size-some : sweep p entry .verdict ≡ undecided Size → SomeLarge p (leftBy p entry .marks)
-  size-some = sweep-ended .some-large
+  -- After Size some vertex is marked 2: one that is dropped.
+  pub size-some : sweep p entry .verdict ≡ undecided Size → (v : ℕ) × (v < vertexCount p) × (markLeft p entry v ≡ 2)
+  size-some e =
+      let d = some-dropped (leftBy p entry .stages) (rest-dropped (sweep-rests fit e) fit) in
+      let reach = sweep-quiet fit (reachable-keeps fit) e .reached .kept in
+      (d .0, omega (arith, d .1, reach .steady .staged .long), reach .fits (d .0) .dropped-two (d .2))
 
   -- A vertex whose mark passes a test that 0 does not was not merged at entry.
   chosen : (test : ℕ → Bool) → test 0 ≡ false → (v : ℕ) → test (markLeft p entry v) ≡ true → not (wasMerged? (p .first) entry v) ≡ true

@@ -53,8 +53,8 @@ module _ {first count : ℕ} {rows : List ℕ} (d : Downward first count rows) (
     apart u m e k = clash m (sym (ap (wasMerged? first rows) k) ∙ e)
 
     -- Not newly merged.
-    idle : (Newly first rows stages v → ⊥) → (wasMerged? first rows v ≡ true → gone? (stageOf stages v) ≡ true) → Taken first rows v 1 stages stages
-    idle not-newly is-gone =
+    unmoved : (Newly first rows stages v → ⊥) → (wasMerged? first rows v ≡ true → gone? (stageOf stages v) ≡ true) → Taken first rows v 1 stages stages
+    unmoved not-newly is-gone =
         record {
           long = refl;
           goes = λ u l h m.
@@ -128,11 +128,11 @@ module _ {first count : ℕ} {rows : List ℕ} (d : Downward first count rows) (
       where
         go : (a : Bool) → merged? rows v ≡ a → (b : Bool) → gone? (stageOf stages v) ≡ b → (c : Bool) → either? stages v (target rows v) ≡ c
             → Taken first rows v 1 stages (cond (a && not b) (set (cond c (wakeAt (target rows v) stages) stages) v gone) stages)
-        go true i true j c k = idle (λ w. clash j (w .not-gone)) (λ m. j)
+        go true i true j c k = unmoved (λ w. clash j (w .not-gone)) (λ m. j)
         go true i false j true k = hands (record { is-merged = made-merged first rows v made ∙ i; not-gone = j }) k
         go true i false j false k = leaves (record { is-merged = made-merged first rows v made ∙ i; not-gone = j }) k
         go false i b j c k =
-            idle (λ w. clash (w .is-merged) (made-merged first rows v made ∙ i)) (λ m. clash m (made-merged first rows v made ∙ i))
+            unmoved (λ w. clash (w .is-merged) (made-merged first rows v made ∙ i)) (λ m. clash m (made-merged first rows v made ∙ i))
 
   -- One vertex and then n more.
   take-more :

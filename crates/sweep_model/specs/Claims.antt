@@ -1,18 +1,18 @@
--- What the rules say of a reply: marks, rows, steps, and the conditions after each. (RULES 7.4 to 7.11)
+-- What the rules say of a reply: marks, rows, steps, and the conditions after each. (RULES 7.4 to 7.10)
 use Prim.Native.Nat.{_+_, _-_, _<_, _≤_, suc, zero, ℕ}
 use Rattle.aig.specs.Literal.{vertexOf}
 use Rattle.aig.specs.Lookup.{firstWord, secondWord}
-use Rattle.sweep_model.specs.State.{Problem, functionOf, literalFunction}
+use Rattle.sweep_model.specs.State.{Problem, literalFunction}
 use Rattle.sweep_model.specs.Sweep.{Verdict, undecided}
 use Rattle.sweep_model.specs.declared.Cause.the-variants.{Rows, Steps}
-use Rattle.truth.specs.Parts.{alike?, together}
+use Rattle.truth.specs.Parts.{together}
 use Rattle.truth.specs.Steps.{steps}
-use Rattle.truth.specs.Truth.{Truth, conj, constant?}
+use Rattle.truth.specs.Truth.{Truth, conj}
 use lib.Dec.{eqb}
 use lib.ListN.{drop, getD, length}
-use mathlib.Core.Bool.{Bool, _||_, cond, false}
+use mathlib.Core.Bool.{Bool, _||_, cond}
 use mathlib.Core.List.{List, [], _∷_, map}
-use mathlib.Core.Logic.{_≢_, _⊎_}
+use mathlib.Core.Logic.{_⊎_}
 use mathlib.Core.Path.{_≡_}
 
 -- An AND: the functions of its two operands. Its function and its product steps. (RULES 5.7)
@@ -72,7 +72,7 @@ pub data Names : Verdict → ℕ → Type 0 where
   by-rows : {v : ℕ} → Names (undecided (Rows v)) v
   by-steps : {v : ℕ} → Names (undecided (Steps v)) v
 
--- The conditions after Size and Idle, on count vertices of which some come first: marks and rows as a reply left them, and the rows by
+-- The conditions after Size, on count vertices of which some come first: marks and rows as a reply left them, and the rows by
 -- which operands are read. (RULES 7.10)
 module _ (first count : ℕ) (marks rows operands : List ℕ) where
   abbrev pub markOf : ℕ → ℕ
@@ -108,18 +108,7 @@ module _ (first count : ℕ) (marks rows operands : List ℕ) where
     by-first : Stuck (vertexOf (firstWord operands v)) → Excused v
     by-second : Stuck (vertexOf (secondWord operands v)) → Excused v
 
-  -- "After Size and Idle, every input is marked 1, and every AND marked 0 ..". (RULES 7.10)
+  -- "After Size, every input is marked 1, and every AND marked 0 ..". (RULES 7.10)
   pub record AtRest : Type 0 where
     pub inputs : (v : ℕ) → 1 ≤ v → v < first → markOf v ≡ 1
     pub ands : (v : ℕ) → Made v → markOf v ≡ 0 → Excused v
-
--- "neither constant nor equal or inverse to a function marked 1": a literal. (RULES 7.11)
-pub record Unmatched (p : Problem) (marks : List ℕ) (r : ℕ) : Type 0 where
-  pub not-constant : constant? (literalFunction p r) ≡ false
-  pub not-alike : (v : ℕ) → v < length (p .functions) → getD marks v 0 ≡ 1 → alike? (literalFunction p r) (functionOf p v) ≡ false
-
--- "After Idle, .. no mark is 2 or 3, and some output is ..": one of the two looked at. (RULES 7.11)
-pub record AfterIdle (p : Problem) (marks : List ℕ) : Type 0 where
-  pub none-large : (v : ℕ) → v < length (p .functions) → getD marks v 0 ≢ 2
-  pub none-named : (v : ℕ) → v < length (p .functions) → getD marks v 0 ≢ 3
-  pub output : Unmatched p marks (p .left) ⊎ Unmatched p marks (p .right)

@@ -5,7 +5,7 @@ use Rattle.aig.specs.Lookup.{firstWord, secondWord}
 use Rattle.product_model.specs.Run.{Book, Outcome, addPart, done, run, shortOfRows, shortOfSteps}
 use Rattle.sweep_model.specs.Normalise.{mergedInto, normalise, resolve}
 use Rattle.sweep_model.specs.State.{Problem, Stage, State, again, bare, bare?, dropped, dropped?, functionOf, gone, has?, literalFunction, open?, opened, stageOf, waiting, waits?, withBook, withMark, withRows, withStages}
-use Rattle.sweep_model.specs.declared.Cause.the-variants.{Idle, Rows, Size, Steps}
+use Rattle.sweep_model.specs.declared.Cause.the-variants.{Rows, Size, Steps}
 use Rattle.sweep_model.specs.declared.Cause.{Cause}
 use Rattle.truth.specs.Parts.{alike?, size}
 use Rattle.truth.specs.Settings.{firstDifference}
@@ -167,13 +167,10 @@ goFor p (suc n) s =
 unfoldable pub go : Problem → State → Progress
 go p s = goFor p (turnsLeft (s .stages)) s
 
--- "6. If none waits, the reply is Undecided.": "by Size (some vertex dropped, none waiting)", "Idle (none waits, none dropped)". (RULES 6.6, 7.3)
+-- "some vertex dropped" (RULES 7.3)
 unfoldable pub anyDropped? : List Stage → Bool
 anyDropped? [] = false
 anyDropped? (x ∷ xs) = dropped? x || anyDropped? xs
-
-unfoldable pub cause : State → Cause
-cause s = cond (anyDropped? (s .stages)) Size Idle
 
 -- "Marks, one byte a vertex, all written at a reply": all 0 at first. The constant "has a diagram of size 0 and never waits". (RULES 6.3, 7.4)
 unfoldable pub begin : Problem → List ℕ → State
@@ -196,9 +193,11 @@ pub record Result : Type 0 where
   pub verdict : Verdict
   pub left : State
 
+-- "6. If none waits, the reply is Undecided.": "by Size (some vertex dropped, none waiting)". The sweep does not ask whether one is dropped: where
+-- none waits and nothing was replied, `anyDropped?` holds (`turns-dropped`). (RULES 6.6, 7.3)
 unfoldable pub resultOf : Progress → Result
 resultOf (ends x s) = record { verdict = x; left = s }
-resultOf (on s) = record { verdict = undecided (cause s); left = s }
+resultOf (on s) = record { verdict = undecided Size; left = s }
 
 -- The whole sweep on the entry rows.
 unfoldable pub sweep : Problem → List ℕ → Result

@@ -5,7 +5,6 @@ pub enum Cause {
     Size,
     Rows(u32),
     Steps(u32),
-    Idle,
 }
 
 pub struct Counts {

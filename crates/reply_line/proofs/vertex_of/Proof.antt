@@ -14,9 +14,6 @@ enum-known-cause c = search needs
 enum-known-cause-2 : tie.Need-enum-known-cause-2
 enum-known-cause-2 c = search needs
 
-enum-told-2 : tie.Need-enum-told-2
-enum-told-2 c = search needs
-
 returns : tie.Need-returns
 returns c = search needs
 
@@ -26,9 +23,6 @@ returns-2 c = rw (c .before .cause .given .1) refl
 returns-3 : tie.Need-returns-3
 returns-3 c = rw (c .before .cause2 .given .1) refl
 
-returns-4 : tie.Need-returns-4
-returns-4 c = search needs
-
 pub vertex-of-spec : {M : Type 1} → statement M
 vertex-of-spec =
     tie.close
@@ -36,8 +30,6 @@ vertex-of-spec =
     enum-told
     enum-known-cause
     enum-known-cause-2
-    enum-told-2
     returns
     returns-2
-    returns-3
-    returns-4)
+    returns-3)

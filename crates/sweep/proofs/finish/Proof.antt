@@ -1,4 +1,4 @@
--- The turns, and at rest the cause; no loop.
+-- The turns, and Size where none waits; no loop.
 -- One law for each way that the turns come out.
 use Rattle.sweep_state.specs.code.Meet.{workspace}
 use Rattle.sweep_state.specs.code.Arrays.{arrays}
@@ -12,9 +12,6 @@ go-requires c κs = search needs
 
 enum-known-going : tie.Need-enum-known-going
 enum-known-going c = search needs
-
-cause-requires : tie.Need-cause-requires
-cause-requires c κs = search needs
 
 enum-known-going-2 : tie.Need-enum-known-going-2
 enum-known-going-2 c = search needs
@@ -39,12 +36,12 @@ same-length-6 c = search needs
 
 returns : tie.Need-returns
 returns c =
-    let start = c .before .before .before .before .before .before .before .before .before .before .before .before .before .before .before .before .before .before .before .before .before .before .before .before .before .before .before .before .before .before in
-    let turned = c .before .before .before .before .before .before .before .before .before .before .before .before .before .before .before .before .before .go in
+    let start = c .before .before .before .before .before .before .before .before .before .before .before .before .before .before .before .before .before .before .before .before .before .before .before .before .before .before .before .before in
+    let turned = c .before .before .before .before .before .before .before .before .before .before .before .before .before .before .before .go in
     rest-answers (start .args .task) (start .args .used) (start .args .steps)
     (workspace (start .args .pairs .now) (arrays (start .args .diagrams .now) (start .args .stages .now) (start .args .rows .now) (start .args .marks .now)))
     (workspace (turned .last .0) (arrays (turned .last .1 .1 .0) (turned .last .1 .1 .1 .0) (turned .last .1 .1 .1 .1 .0) (turned .last .1 .1 .1 .1 .1 .0)))
-    (turned .ensures) (c .before .before .before .going .given .1) (c .cause .ensures)
+    (turned .ensures) (c .before .going .given .1)
 
 same-length-7 : tie.Need-same-length-7
 same-length-7 c = search needs
@@ -79,7 +76,6 @@ finish-spec =
     (tie.spec
     go-requires
     enum-known-going
-    cause-requires
     enum-known-going-2
     same-length
     same-length-2

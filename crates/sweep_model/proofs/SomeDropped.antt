@@ -1,10 +1,10 @@
--- Where none waits and none is dropped every unmerged vertex has a diagram; so the sweep never says Idle.
+-- Where none waits and none is dropped every unmerged vertex has a diagram, and the sweep has replied; so some vertex is dropped after Size.
 use Prim.Native.Nat.{_*_, _<_, _≤_, suc, zero, ℕ}
 use Rattle.aig.specs.Literal.{vertexOf}
 use Rattle.aig.specs.Lookup.{firstWord, secondWord}
 use Rattle.sweep_model.proofs.Bound.{claim-on}
 use Rattle.sweep_model.proofs.Choices.{none-dropped, pick-none, pick-waits, twin-at}
-use Rattle.sweep_model.proofs.Halt.{Resting, cause-idle, sweep-quiet}
+use Rattle.sweep_model.proofs.Halt.{sweep-quiet}
 use Rattle.sweep_model.proofs.Induction.{Keeps, Place, Quiet, giving, go-claim, scanning, start-claim}
 use Rattle.sweep_model.proofs.Rows.{resolve-within}
 use Rattle.sweep_model.proofs.Stages.{bare-lacks, has-not-gone, rests-is, stage-cases, stage-within, waits-has}
@@ -15,13 +15,13 @@ use Rattle.sweep_model.specs.Normalise.{resolve, wasMerged?}
 use Rattle.sweep_model.specs.State.{Problem, Stage, State, bare?, dropped, dropped?, gone?, has?, opened, stageOf, waiting, waits?}
 use Rattle.sweep_model.specs.code.Steady.{Steady, Unsettled, haveNow?}
 use Rattle.sweep_model.specs.Sweep.{anyDropped?, dropVertex, go, on, start, sweep, swept, turnsLeft, undecided}
-use Rattle.sweep_model.specs.declared.Cause.the-variants.{Idle}
-use Rattle.truth.proofs.Booleans.{clash}
+use Rattle.sweep_model.specs.declared.Cause.the-variants.{Size}
+use Rattle.truth.proofs.Booleans.{bool-cases, clash}
 use lib.ListN.{length}
 use mathlib.Core.Bool.{_&&_, false, true}
 use mathlib.Core.List.{List}
 use mathlib.Core.Logic.{_≢_, _⊎_, inl, inr, ⊎-elim}
-use mathlib.Core.Path.{_∙_, _≡_, ap₂, refl, sym}
+use mathlib.Core.Path.{_∙_, _≡_, ap₂, refl}
 use native.Mathlib.Decide.{decLt}
 use native.Mathlib.Omega.{arith}
 
@@ -93,9 +93,9 @@ module _ {p : Problem} {entry : List ℕ} (fit : Fit p entry) where
   unfolding go
   turns-rest s t e f = quiet-rest (claim-on (go-claim fit no-starving (turnsLeft (s .stages)) s (claim-on (start-claim fit no-starving) e)) f)
 
-  -- So it is after Size and Idle.
-  pub sweep-rests : Resting (sweep p entry .verdict) → Rest p entry (sweep p entry .left)
-  sweep-rests r = quiet-rest (sweep-quiet fit no-starving r .0)
+  -- So it is after Size.
+  pub sweep-rests : sweep p entry .verdict ≡ undecided Size → Rest p entry (sweep p entry .left)
+  sweep-rests e = quiet-rest (sweep-quiet fit no-starving e)
 
 module _ {p : Problem} {entry : List ℕ} {s : State} (rest : Rest p entry s) where
   lacks-here : (v : ℕ) → gone? (stageOf (s .stages) v) ≡ false → stageOf (s .stages) v ≢ opened → Lacking (s .stages) v
@@ -146,9 +146,14 @@ module _ {p : Problem} {entry : List ℕ} {s : State} (rest : Rest p entry s) wh
             all-have (vertexOf (resolve (s .rows) r)) (omega (arith, resolve-within (rest .steady .sound .downward) r (vertexCount p) (omega arith) h))
             (resolve-unmerged (rest .steady .sound .downward) (rest .steady .tidy) r (omega arith))
 
-module _ {p : Problem} {entry : List ℕ} (fit : Fit p entry) where
-  -- The sweep never says Idle: both literals would have diagrams, and then it has ended.
-  pub never-idle : sweep p entry .verdict ≢ undecided Idle
-  never-idle e =
-      let rest = sweep-rests fit (inr e) in
-      clash (both-have rest (cause-idle (sweep p entry .left) (sym e ∙ sweep-quiet fit (no-starving fit) (inr e) .1)) fit) (rest .unsettled .lacking)
+  -- So some vertex is dropped: else both would have diagrams, and the look after the last product had ended the sweep.
+  pub rest-dropped : Fit p entry → anyDropped? (s .stages) ≡ true
+  rest-dropped fit =
+      elim (bool-cases (anyDropped? (s .stages))) [
+        | inl e ↦ e
+        | inr calm ↦ clash (both-have calm fit) (rest .unsettled .lacking)
+      ]
+
+-- Where the start goes on and the turns end without a verdict, none waits and some vertex is dropped.
+pub turns-dropped : {p : Problem} {entry : List ℕ} → Fit p entry → (s t : State) → start p entry ≡ on s → go p s ≡ on t → anyDropped? (t .stages) ≡ true
+turns-dropped fit s t e f = rest-dropped (turns-rest fit s t e f) fit
