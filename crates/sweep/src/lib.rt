@@ -14,7 +14,7 @@ ghost use Rattle.sweep_turn.specs.code.Turn.{RestIn};
 ghost use Rattle.sweep.specs.code.Sweep.{Rests, Sweeps};
 ghost use lib.ListN.{length};
 
-// The turns. Where none waits the reply is Undecided by Size: some vertex is dropped then (turns-dropped in sweep_model), so none is looked for.
+// The turns. Where none waits the reply is Undecided by Size: by the law turns-dropped of sweep_model some vertex is dropped then.
 fn finish(
     pairs: &mut [u32],
     look: &mut [u32],

@@ -1,4 +1,4 @@
--- Where none waits and none is dropped every unmerged vertex has a diagram, and the sweep has replied; so some vertex is dropped after Size.
+-- Where none waits and none is dropped every unmerged vertex has a diagram, and then the sweep has replied: after Size some vertex is dropped.
 use Prim.Native.Nat.{_*_, _<_, _≤_, suc, zero, ℕ}
 use Rattle.aig.specs.Literal.{vertexOf}
 use Rattle.aig.specs.Lookup.{firstWord, secondWord}
@@ -146,7 +146,7 @@ module _ {p : Problem} {entry : List ℕ} {s : State} (rest : Rest p entry s) wh
             all-have (vertexOf (resolve (s .rows) r)) (omega (arith, resolve-within (rest .steady .sound .downward) r (vertexCount p) (omega arith) h))
             (resolve-unmerged (rest .steady .sound .downward) (rest .steady .tidy) r (omega arith))
 
-  -- So some vertex is dropped: else both would have diagrams, and the look after the last product had ended the sweep.
+  -- So some vertex is dropped: else both would have diagrams, and the look after the last product would have ended the sweep.
   pub rest-dropped : Fit p entry → anyDropped? (s .stages) ≡ true
   rest-dropped fit =
       elim (bool-cases (anyDropped? (s .stages))) [
@@ -155,5 +155,6 @@ module _ {p : Problem} {entry : List ℕ} {s : State} (rest : Rest p entry s) wh
       ]
 
 -- Where the start goes on and the turns end without a verdict, none waits and some vertex is dropped.
-pub turns-dropped : {p : Problem} {entry : List ℕ} → Fit p entry → (s t : State) → start p entry ≡ on s → go p s ≡ on t → anyDropped? (t .stages) ≡ true
+pub turns-dropped :
+    {p : Problem} {entry : List ℕ} → Fit p entry → (s t : State) → start p entry ≡ on s → go p s ≡ on t → anyDropped? (t .stages) ≡ true
 turns-dropped fit s t e f = rest-dropped (turns-rest fit s t e f) fit

@@ -167,7 +167,7 @@ goFor p (suc n) s =
 unfoldable pub go : Problem → State → Progress
 go p s = goFor p (turnsLeft (s .stages)) s
 
--- "some vertex dropped" (RULES 7.3)
+-- "some vertex dropped": so it is where none waits and nothing was replied (`turns-dropped`), and the sweep does not ask. (RULES 7.3)
 unfoldable pub anyDropped? : List Stage → Bool
 anyDropped? [] = false
 anyDropped? (x ∷ xs) = dropped? x || anyDropped? xs
@@ -193,8 +193,7 @@ pub record Result : Type 0 where
   pub verdict : Verdict
   pub left : State
 
--- "6. If none waits, the reply is Undecided.": "by Size (some vertex dropped, none waiting)". The sweep does not ask whether one is dropped: where
--- none waits and nothing was replied, `anyDropped?` holds (`turns-dropped`). (RULES 6.6, 7.3)
+-- "6. If none waits, the reply is Undecided.": "by Size (some vertex dropped, none waiting)". (RULES 6.6, 7.3)
 unfoldable pub resultOf : Progress → Result
 resultOf (ends x s) = record { verdict = x; left = s }
 resultOf (on s) = record { verdict = undecided Size; left = s }
