@@ -1,7 +1,7 @@
 -- The bound on the turns is never reached.
 use Prim.Native.Nat.{_+_, _≤_, suc, zero, ℕ}
 use Rattle.sweep_model.proofs.Choices.{no-turns-no-pick, pick-waits}
-use Rattle.sweep_model.proofs.Induction.{Claim, Keeps, Reached, endings-keep, goes-on, stops, turn-claim}
+use Rattle.sweep_model.proofs.Induction.{Claim, Keeps, Reached, goes-on, stops, turn-claim, unasked, unclaimed}
 use Rattle.sweep_model.proofs.Stages.{has-not-gone, stage-within, waits-has}
 use Rattle.sweep_model.proofs.Steady.{openedAt}
 use Rattle.sweep_model.proofs.Turns.{turns-set, waiting-turns}
@@ -31,20 +31,9 @@ claim-on {P} {W} {o} {s} c e = at-on (rw e at c)
     at-on : Claim P W (on s) → P s
     at-on (goes-on h) = h
 
--- Nothing is asked of the states.
+-- Nothing is asked of the states or claimed of the end.
 pub nothing : (p : Problem) (entry : List ℕ) → Keeps p entry (λ place s. Unit {0}) (λ x s. Unit {0})
-nothing p entry =
-    endings-keep
-    (record {
-      same-literal = λ s h e. tt;
-      inverse-literal = λ s h e. tt;
-      same-function = λ s h e. tt;
-      other-function = λ s h e. tt;
-      lacks-input-row = λ v s h. tt;
-      lacks-row = λ v b s h. tt;
-      lacks-step = λ v b s h. tt;
-      rests = λ s h. tt;
-    })
+nothing p entry = unclaimed unasked
 
 -- Where none waits the turns end.
 pub go-stops : (p : Problem) (n : ℕ) (s : State) → pickFrom p 0 (s .stages) ≡ none → goFor p n s ≡ on s

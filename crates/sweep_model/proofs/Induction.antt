@@ -32,23 +32,12 @@ pub data Place : Type 0 where
   giving : ℕ → Place
   scanning : ℕ → ℕ → Place
 
--- What has to be shown so that R holds of every state that the sweep reaches, by its place, and W of the verdict and the state at the end.
-pub record Keeps (p : Problem) (entry : List ℕ) (R : Place → State → Type 0) (W : Verdict → State → Type 0) : Type 0 where
-  -- The two literals are one, or inverse; or both have diagrams, of equal functions or not.
-  pub same-literal : (place : Place) (s : State) → Steady p entry s → R place s → leftNow p s ≡ rightNow p s → W equal s
-  pub inverse-literal : (place : Place) (s : State) → Steady p entry s → R place s → leftNow p s ≡ negate (rightNow p s)
-      → W (different (replicate (p .inputs) false)) s
-  pub same-function : (place : Place) (s : State) → Steady p entry s → R place s → leftNow p s ≢ rightNow p s → leftNow p s ≢ negate (rightNow p s)
-      → haveNow? p s ≡ true → same? (literalFunction p (leftNow p s)) (literalFunction p (rightNow p s)) ≡ true → W equal s
-  pub other-function : (place : Place) (s : State) → Steady p entry s → R place s → leftNow p s ≢ rightNow p s → leftNow p s ≢ negate (rightNow p s)
-      → haveNow? p s ≡ true → same? (literalFunction p (leftNow p s)) (literalFunction p (rightNow p s)) ≡ false
-      → W (different (firstDifference (literalFunction p (leftNow p s)) (literalFunction p (rightNow p s)))) s
-  -- The first normalising; an input given its row, or the row limit passed there; all inputs have theirs.
+-- What has to be shown so that R holds of every state that the sweep reaches, by its place.
+pub record Invariant (p : Problem) (entry : List ℕ) (R : Place → State → Type 0) : Type 0 where
+  -- The first normalising; an input given its row; all inputs have theirs.
   pub begins : R (giving 1) (normalise (p .first) (begin p entry))
   pub gives-row : (v : ℕ) (b : Book) (s : State) → Steady p entry s → Giving p v s → 1 ≤ v → v < p .first → inputRow p v s ≡ done b → R (giving v) s
       → R (giving (suc v)) (swept v (withBook b s))
-  pub lacks-input-row : (v : ℕ) (b : Book) (s : State) → Steady p entry s → Giving p v s → 1 ≤ v → v < p .first → inputRow p v s ≡ shortOfRows b
-      → R (giving v) s → W (undecided (Rows v)) (withMark v 3 s)
   pub starts : (s : State) → Steady p entry s → Giving p (p .first) s → Unsettled p s → R (giving (p .first)) s
       → R (scanning (turnsLeft (s .stages)) (vertexCount p)) s
   -- A vertex is picked and opens; the scan passes over a vertex that is not ready.
@@ -63,7 +52,22 @@ pub record Keeps (p : Problem) (entry : List ℕ) (R : Place → State → Type 
       → twinFrom p (s .stages) v 0 (length (s .stages)) ≡ none → R (scanning n v) s → R (scanning n (suc v)) (swept v (withBook b s))
   pub merges : (n v w : ℕ) (b : Book) (s : State) → Due p entry n v s → productOf p v s ≡ done b → ltb (p .limits .size) (size (functionOf p v)) ≡ false
       → twinFrom p (s .stages) v 0 (length (s .stages)) ≡ at w → R (scanning n v) s → R (scanning n (suc v)) (meet p v (withBook b s) (at w))
-  -- A product is short of rows or steps.
+
+-- And so that W holds of the verdict and the state at the end.
+pub record Keeps (p : Problem) (entry : List ℕ) (R : Place → State → Type 0) (W : Verdict → State → Type 0) : Type 0 where
+  pub invariant : Invariant p entry R
+  -- The two literals are one, or inverse; or both have diagrams, of equal functions or not.
+  pub same-literal : (place : Place) (s : State) → Steady p entry s → R place s → leftNow p s ≡ rightNow p s → W equal s
+  pub inverse-literal : (place : Place) (s : State) → Steady p entry s → R place s → leftNow p s ≡ negate (rightNow p s)
+      → W (different (replicate (p .inputs) false)) s
+  pub same-function : (place : Place) (s : State) → Steady p entry s → R place s → leftNow p s ≢ rightNow p s → leftNow p s ≢ negate (rightNow p s)
+      → haveNow? p s ≡ true → same? (literalFunction p (leftNow p s)) (literalFunction p (rightNow p s)) ≡ true → W equal s
+  pub other-function : (place : Place) (s : State) → Steady p entry s → R place s → leftNow p s ≢ rightNow p s → leftNow p s ≢ negate (rightNow p s)
+      → haveNow? p s ≡ true → same? (literalFunction p (leftNow p s)) (literalFunction p (rightNow p s)) ≡ false
+      → W (different (firstDifference (literalFunction p (leftNow p s)) (literalFunction p (rightNow p s)))) s
+  -- The row limit is passed at an input; a product is short of rows or steps.
+  pub lacks-input-row : (v : ℕ) (b : Book) (s : State) → Steady p entry s → Giving p v s → 1 ≤ v → v < p .first → inputRow p v s ≡ shortOfRows b
+      → R (giving v) s → W (undecided (Rows v)) (withMark v 3 s)
   pub lacks-row : (n v : ℕ) (b : Book) (s : State) → Due p entry n v s → productOf p v s ≡ shortOfRows b → R (scanning n v) s
       → W (undecided (Rows v)) (withMark v 3 (withBook (givenBack (s .book) b) s))
   pub lacks-step : (n v : ℕ) (b : Book) (s : State) → Due p entry n v s → productOf p v s ≡ shortOfSteps b → R (scanning n v) s
@@ -71,6 +75,35 @@ pub record Keeps (p : Problem) (entry : List ℕ) (R : Place → State → Type 
   -- None waits.
   pub rests : (n : ℕ) (s : State) → Steady p entry s → Scanning p n (vertexCount p) s → pickFrom p 0 (s .stages) ≡ none → R (scanning n (vertexCount p)) s
       → W (undecided Size) s
+
+-- Nothing is asked of the states.
+pub unasked : {p : Problem} {entry : List ℕ} → Invariant p entry (λ place s. Unit {0})
+unasked =
+    record {
+      begins = tt;
+      gives-row = λ v b s h g l m e r. tt;
+      starts = λ s h g u r. tt;
+      opens = λ n v s h c e r. tt;
+      passes = λ n v s h c l e r. tt;
+      drops = λ n v b s d e f r. tt;
+      sweeps = λ n v b s d e f t r. tt;
+      merges = λ n v w b s d e f t r. tt;
+    }
+
+-- Nothing is claimed of the end.
+pub unclaimed : {p : Problem} {entry : List ℕ} {R : Place → State → Type 0} → Invariant p entry R → Keeps p entry R (λ x s. Unit {0})
+unclaimed I =
+    record {
+      invariant = I;
+      same-literal = λ place s h r e. tt;
+      inverse-literal = λ place s h r e. tt;
+      same-function = λ place s h r a b c e. tt;
+      other-function = λ place s h r a b c e. tt;
+      lacks-input-row = λ v b s h g l m e r. tt;
+      lacks-row = λ n v b s d e r. tt;
+      lacks-step = λ n v b s d e r. tt;
+      rests = λ n s h c e r. tt;
+    }
 
 -- What has to be shown so that W holds of the verdict and the state at the end, where nothing but steadiness is asked of the states before.
 pub record Endings (p : Problem) (entry : List ℕ) (W : Verdict → State → Type 0) : Type 0 where
@@ -88,19 +121,12 @@ pub record Endings (p : Problem) (entry : List ℕ) (W : Verdict → State → T
 pub endings-keep : {p : Problem} {entry : List ℕ} {W : Verdict → State → Type 0} → Endings p entry W → Keeps p entry (λ place s. Unit {0}) W
 endings-keep E =
     record {
+      invariant = unasked;
       same-literal = λ place s h r e. E .same-literal s h e;
       inverse-literal = λ place s h r e. E .inverse-literal s h e;
       same-function = λ place s h r a b c e. E .same-function s h e;
       other-function = λ place s h r a b c e. E .other-function s h e;
-      begins = tt;
-      gives-row = λ v b s h g l m e r. tt;
       lacks-input-row = λ v b s h g l m e r. E .lacks-input-row v s h;
-      starts = λ s h g u r. tt;
-      opens = λ n v s h c e r. tt;
-      passes = λ n v s h c l e r. tt;
-      drops = λ n v b s d e f r. tt;
-      sweeps = λ n v b s d e f t r. tt;
-      merges = λ n v w b s d e f t r. tt;
       lacks-row = λ n v b s d e r. E .lacks-row v b s (d .steady);
       lacks-step = λ n v b s d e r. E .lacks-step v b s (d .steady);
       rests = λ n s h c e r. E .rests s h;
@@ -180,7 +206,7 @@ module _ {p : Problem} {entry : List ℕ} (fit : Fit p entry) {R : Place → Sta
         test-claim (ltb (p .limits .size) (size (functionOf p v)))
         (λ f.
         let h = dropped-steady s b v nonzero (due-alive due) (due .steady) in
-        let k = K .drops n v b s due e f r in
+        let k = K .invariant .drops n v b s due e f r in
         look-claim (scanning n (suc v)) (dropVertex v b s) h k (λ u. record { steady = h; scanned = scanning-dropped due b u; kept = k }))
         (λ f. met f (twinFrom p (s .stages) v 0 (length (s .stages))) refl)
       where
@@ -188,12 +214,12 @@ module _ {p : Problem} {entry : List ℕ} (fit : Fit p entry) {R : Place → Sta
             → Claim (Reached n (suc v)) W (look p (meet p v (withBook b s) o))
         met f none i = unfold meet in
             (let h = swept-steady s b v nonzero (due-alive due) (due .steady) in
-            let k = K .sweeps n v b s due e f i r in
+            let k = K .invariant .sweeps n v b s due e f i r in
             look-claim (scanning n (suc v)) (swept v (withBook b s)) h k (λ u. record { steady = h; scanned = scanning-swept due b u; kept = k }))
         met f (at w) i =
             let t = twin-at p (s .stages) v 0 (length (s .stages)) w i in
             let h = merger-steady fit due w t b in
-            let k = K .merges n v w b s due e f i r in
+            let k = K .invariant .merges n v w b s due e f i r in
             look-claim (scanning n (suc v)) (meet p v (withBook b s) (at w)) h k
             (λ u. record { steady = h; scanned = merger-scanning fit due w t b u; kept = k })
 
@@ -230,7 +256,7 @@ module _ {p : Problem} {entry : List ℕ} (fit : Fit p entry) {R : Place → Sta
           (c .kept)
       case false e =
           goes-on
-          (record { steady = c .steady; scanned = scanning-passed n v s h (c .scanned); kept = K .passes n v s (c .steady) (c .scanned) h e (c .kept) })
+          (record { steady = c .steady; scanned = scanning-passed n v s h (c .scanned); kept = K .invariant .passes n v s (c .steady) (c .scanned) h e (c .kept) })
 
   -- A scan to the last vertex.
   pub scan-claim : (n m k : ℕ) (s : State) → k + m ≡ vertexCount p → Reached n k s → Claim (Reached n (vertexCount p)) W (scanFrom p k m s)
@@ -246,7 +272,7 @@ module _ {p : Problem} {entry : List ℕ} (fit : Fit p entry) {R : Place → Sta
       let w = pick-waits p (s .stages) v e in
       let o = scanning-opened n v s (c .steady) w (c .scanned) in
       scan-claim n (length (s .stages) - suc v) (suc v) (openedAt v s) (omega (arith, o .within, c .steady .staged .long))
-      (record { steady = opened-steady s v w (c .steady); scanned = o; kept = K .opens n v s (c .steady) (c .scanned) e (c .kept) })
+      (record { steady = opened-steady s v w (c .steady); scanned = o; kept = K .invariant .opens n v s (c .steady) (c .scanned) e (c .kept) })
 
   -- Where the turns end: at most n are left, and none waits.
   pub record Quiet (s : State) : Type 0 where
@@ -283,7 +309,7 @@ module _ {p : Problem} {entry : List ℕ} (fit : Fit p entry) {R : Place → Sta
           (record {
             steady = swept-steady s b k (λ i. omega arith) (ap gone? (c .given .later k l (omega arith) (omega arith))) (c .steady);
             given = giving-swept s b k (c .steady) (omega arith) (fit .well-formed .first-within) (c .given);
-            kept = K .gives-row k b s (c .steady) (c .given) l (omega arith) f (c .kept);
+            kept = K .invariant .gives-row k b s (c .steady) (c .given) l (omega arith) f (c .kept);
           })
       case (shortOfRows b) f = unfold giveRow in stops (K .lacks-input-row k b s (c .steady) (c .given) l (omega arith) f (c .kept))
       case (shortOfSteps b) f = absurd (input-steps p k s b f)
@@ -293,15 +319,15 @@ module _ {p : Problem} {entry : List ℕ} (fit : Fit p entry) {R : Place → Sta
   unfolding start
   start-claim =
       then-claim {P = Given 1}
-      (look-claim (giving 1) (normalise (p .first) (begin p entry)) (begin-steady fit) (K .begins)
-      (λ u. record { steady = begin-steady fit; given = begin-giving fit; kept = K .begins })) λ s c.
+      (look-claim (giving 1) (normalise (p .first) (begin p entry)) (begin-steady fit) (K .invariant .begins)
+      (λ u. record { steady = begin-steady fit; given = begin-giving fit; kept = K .invariant .begins })) λ s c.
       then-claim (inputs-claim (p .first - 1) 1 s (omega arith) (omega (arith, fit .well-formed .some-first)) c) λ t d.
       look-claim (giving (p .first)) t (d .steady) (d .kept)
       (λ u.
       record {
         steady = d .steady;
         scanned = giving-scanning t (d .steady) (d .given) u;
-        kept = K .starts t (d .steady) (d .given) u (d .kept);
+        kept = K .invariant .starts t (d .steady) (d .given) u (d .kept);
       })
 
   -- What each step keeps holds of the answer.

@@ -248,19 +248,22 @@ module _ {p : Problem} {entry : List ℕ} (fit : Fit p entry) where
   pub reachable-keeps : Keeps p entry (λ place s. Reachable p entry s) (Ended p entry)
   reachable-keeps =
       record {
+        invariant =
+            record {
+              begins = begin-reachable fit;
+              gives-row = λ v b s h g l m e r. input-reachable fit v b s g l m e r;
+              starts = λ s h g u r. r;
+              opens = λ n v s h c e r. opened-reachable r v (pick-waits p (s .stages) v e);
+              passes = λ n v s h c l e r. r;
+              drops = λ n v b s d e f r. dropped-reachable fit d r b e f;
+              sweeps = λ n v b s d e f t r. product-reachable fit d r b e f t;
+              merges = λ n v w b s d e f t r. merged-reachable fit d r b e f w t;
+            };
         same-literal = λ place s h r e. decided-ends equal s r (λ c i. impossible (cc));
         inverse-literal = λ place s h r e. decided-ends (different _) s r (λ c i. impossible (cc));
         same-function = λ place s h r a b c e. decided-ends equal s r (λ c i. impossible (cc));
         other-function = λ place s h r a b c e. decided-ends (different _) s r (λ c i. impossible (cc));
-        begins = begin-reachable fit;
-        gives-row = λ v b s h g l m e r. input-reachable fit v b s g l m e r;
         lacks-input-row = λ v b s h g l m e r. input-ends v b s g l m e r;
-        starts = λ s h g u r. r;
-        opens = λ n v s h c e r. opened-reachable r v (pick-waits p (s .stages) v e);
-        passes = λ n v s h c l e r. r;
-        drops = λ n v b s d e f r. dropped-reachable fit d r b e f;
-        sweeps = λ n v b s d e f t r. product-reachable fit d r b e f t;
-        merges = λ n v w b s d e f t r. merged-reachable fit d r b e f w t;
         lacks-row = λ n v b s d e r. row-ends d r b e;
         lacks-step = λ n v b s d e r. step-ends d r b e;
         rests = λ n s h c e r. rest-ends s c r;

@@ -2,7 +2,7 @@
 use Prim.Native.Nat.{ℕ}
 use Rattle.aig.specs.Literal.{vertexOf}
 use Rattle.product_model.proofs.Cases.{impossible}
-use Rattle.sweep_model.proofs.Induction.{Keeps, sweep-keeps}
+use Rattle.sweep_model.proofs.Induction.{Keeps, sweep-keeps, unasked}
 use Rattle.sweep_model.specs.code.Steady.{leftNow, rightNow}
 use Rattle.sweep_model.specs.Choices.{OutputsApart, inverse, with-diagrams}
 use Rattle.sweep_model.specs.Fit.{Fit}
@@ -26,21 +26,14 @@ module _ {p : Problem} {entry : List ℕ} (fit : Fit p entry) where
   seen-keeps : Keeps p entry (λ place s. Unit {0}) Seen
   seen-keeps =
       record {
+        invariant = unasked;
         same-literal = λ place s h r e t i. impossible (cc);
         inverse-literal = λ place s h r e t i. inverse e;
         same-function = λ place s h r a b c e t i. impossible (cc);
         other-function =
             λ place s h r a b c e t i.
             with-diagrams a (and-left (has s (leftNow p s)) (has s (rightNow p s)) c) (and-right (has s (leftNow p s)) (has s (rightNow p s)) c);
-        begins = tt;
-        gives-row = λ v b s h g l m e r. tt;
         lacks-input-row = λ v b s h g l m e r t i. impossible (cc);
-        starts = λ s h g u r. tt;
-        opens = λ n v s h c e r. tt;
-        passes = λ n v s h c l e r. tt;
-        drops = λ n v b s d e f r. tt;
-        sweeps = λ n v b s d e f t r. tt;
-        merges = λ n v w b s d e f t r. tt;
         lacks-row = λ n v b s d e r t i. impossible (cc);
         lacks-step = λ n v b s d e r t i. impossible (cc);
         rests = λ n s h c e r t i. impossible (cc);

@@ -5,7 +5,7 @@ use Rattle.aig.specs.Lookup.{firstWord, secondWord}
 use Rattle.sweep_model.proofs.Bound.{claim-on}
 use Rattle.sweep_model.proofs.Choices.{none-dropped, pick-none, pick-waits, twin-at}
 use Rattle.sweep_model.proofs.Halt.{sweep-quiet}
-use Rattle.sweep_model.proofs.Induction.{Keeps, Place, Quiet, giving, go-claim, scanning, start-claim}
+use Rattle.sweep_model.proofs.Induction.{Keeps, Place, Quiet, giving, go-claim, scanning, start-claim, unclaimed}
 use Rattle.sweep_model.proofs.Rows.{resolve-within}
 use Rattle.sweep_model.proofs.Stages.{bare-lacks, has-not-gone, rests-is, stage-cases, stage-within, waits-has}
 use Rattle.sweep_model.proofs.Starving.{Delayed, NoneStarves, by-first, by-second, due-starves, first-alive, first-lower, giving-starves, merger-starves, passed-starves, second-alive, second-lower, starving-set}
@@ -53,14 +53,10 @@ module _ {p : Problem} {entry : List ℕ} (fit : Fit p entry) where
   pub no-starving : Keeps p entry NotStarving (λ x s. Unit {0})
   unfolding NotStarving swept dropVertex bare?
   no-starving =
-      record {
-        same-literal = λ place s h r e. tt;
-        inverse-literal = λ place s h r e. tt;
-        same-function = λ place s h r a b c e. tt;
-        other-function = λ place s h r a b c e. tt;
+      unclaimed
+      (record {
         begins = tt;
         gives-row = λ v b s h g l m e r. tt;
-        lacks-input-row = λ v b s h g l m e r. tt;
         starts = λ s h g u r. giving-starves s h g;
         opens = λ n v s h c e r.
             let w = pick-waits p (s .stages) v e in
@@ -71,10 +67,7 @@ module _ {p : Problem} {entry : List ℕ} (fit : Fit p entry) where
         drops = λ n v b s d e f r. due-starves d dropped refl r;
         sweeps = λ n v b s d e f t r. due-starves d waiting refl r;
         merges = λ n v w b s d e f t r. merger-starves d fit w (twin-at p (s .stages) v 0 (length (s .stages)) w t) b r;
-        lacks-row = λ n v b s d e r. tt;
-        lacks-step = λ n v b s d e r. tt;
-        rests = λ n s h c e r. tt;
-      }
+      })
 
   -- So no vertex starves where the turns have ended.
   quiet-rest : {s : State} → Quiet fit no-starving s → Rest p entry s

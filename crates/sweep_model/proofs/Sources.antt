@@ -4,7 +4,7 @@ use Rattle.aig.specs.Literal.{vertexOf}
 use Rattle.product_model.specs.Run.{Book}
 use Rattle.sweep_model.proofs.Accounts.{zeros}
 use Rattle.sweep_model.proofs.Choices.{pick-waits, twin-at}
-use Rattle.sweep_model.proofs.Induction.{Keeps}
+use Rattle.sweep_model.proofs.Induction.{Keeps, unclaimed}
 use Rattle.sweep_model.proofs.Merger.{merger-marks, merger-moves, merger-steady, merger-taken}
 use Rattle.sweep_model.proofs.Reachable.{giving-has}
 use Rattle.sweep_model.proofs.Rows.{resolve-vertex, resolve-within}
@@ -238,14 +238,10 @@ module _ {p : Problem} {entry : List ℕ} (fit : Fit p entry) where
   pub sources-keep : Keeps p entry (λ place s. Recorded p s) (λ x s. Unit {0})
   unfolding gone? swept
   sources-keep =
-      record {
-        same-literal = λ place s h r e. tt;
-        inverse-literal = λ place s h r e. tt;
-        same-function = λ place s h r a b c e. tt;
-        other-function = λ place s h r a b c e. tt;
+      unclaimed
+      (record {
         begins = begin-recorded;
         gives-row = λ v b s h g l m e r. recorded-swept h v (ap gone? (g .later v l (omega arith) m)) r b;
-        lacks-input-row = λ v b s h g l m e r. tt;
         starts = λ s h g u r. r;
         opens = λ n v s h c e r.
             let w = pick-waits p (s .stages) v e in
@@ -259,7 +255,4 @@ module _ {p : Problem} {entry : List ℕ} (fit : Fit p entry) where
             (swept-steady s b v (λ i. omega (arith, d .made, fit .well-formed .some-first)) (due-alive d) (d .steady)) (merger-steady fit d w twin b)
             (merger-moves fit d w twin b) (merger-taken fit d w twin b) (merger-marks fit d w twin b)
             (recorded-swept (d .steady) v (due-alive d) r b);
-        lacks-row = λ n v b s d e r. tt;
-        lacks-step = λ n v b s d e r. tt;
-        rests = λ n s h c e r. tt;
-      }
+      })
