@@ -5,11 +5,11 @@ Writes CRATE/data/cards.txt, the cards that the program `run_cards` runs, and CR
 The cards are those of docs/RULES.md 11.7 and 13.3, then every line of COMPARISONS (tools/comparisons.tsv).
 
 COMPARISONS has a line for each comparison, with tabs between: list, left, right (lines parted by `;`, fields by `,`),
-output, size limit, row limit, step limit, then what must come: reply, vertex, setting, rows, steps, marks (a digit for
-each vertex), the table's words. Lines with the same list number follow one another on one table.
+output, size limit, row limit, step limit, then what must come: reply, vertex, setting, rows, steps, rows added, marks (a digit
+for each vertex), the table's words. Lines with the same list number follow one another on one table.
 
 cards.txt has the cards with `%` between them, and each card's fields with `|` between them: name, left file, right file,
-output, size limit, row limit, step limit, the reply's line (without the setting), setting, marks, words, and the end of the line. The files
+output, size limit, row limit, step limit, the reply's line (without the setting), rows added, setting, marks, words, and the end of the line. The files
 are empty where the card goes on with the table of the card before. Setting, marks and words have one more at their ends, which the
 comparison must not change: the program fills these slices with `-`, 9 and 7.
 """
@@ -19,17 +19,29 @@ AND = "N,1,2,1,1;G,and,2,4;O,6"
 OR = "N,1,2,1,1;G,or,2,4;O,6"
 XOR = "N,1,2,1,1;G,xor,2,4;O,6"
 OR_AND = "N,1,2,3,1;G,or,2,4;G,and,2,4;G,and,6,9;O,10"
+FIRST_INPUT = "N,1,3,0,1;O,2"
+XOR_AND = "N,1,3,2,1;G,xor,2,6;G,and,4,8;O,10"
+AND_XOR_AND = "N,1,3,3,1;G,and,2,4;G,xor,2,6;G,and,8,10;O,12"
 AND_OR_WORDS = "2,2,1,2,4,3,5,6,9"
+XOR_AND_WORDS = "3,4,1,2,7,3,6,9,11,4,13,14,2"
+AND_XOR_AND_WORDS = "3,5,1,2,4,2,7,3,6,11,13,8,15,16,2"
 
 # In the fields of COMPARISONS, with a name for the list number.
 RULES = [
-    ("and/or", AND, OR, 0, 4096, 4096, 1000000, "different", "-", "01", 4, 6, "01111", AND_OR_WORDS),
-    ("and/or, row limit 3", AND, OR, 0, 4096, 3, 1000000, "rows", 4, "-", 3, 6, "01113", AND_OR_WORDS),
-    ("and/or, step limit 5", AND, OR, 0, 4096, 4096, 5, "steps", 4, "-", 3, 5, "01113", AND_OR_WORDS),
-    ("and/or, step limit 6", AND, OR, 0, 4096, 4096, 6, "different", "-", "01", 4, 6, "01111", AND_OR_WORDS),
-    ("and/or, size limit 1", AND, OR, 0, 1, 4096, 1000000, "size", "-", "-", 2, 6, "01122", AND_OR_WORDS),
-    ("xor", XOR, OR_AND, 0, 4096, 4096, 1000000, "equal", "-", "-", 7, 18, "011111111",
+    ("and/or", AND, OR, 0, 4096, 4096, 1000000, "different", "-", "01", 4, 6, 0, "01111", AND_OR_WORDS),
+    ("and/or, row limit 3", AND, OR, 0, 4096, 3, 1000000, "rows", 4, "-", 3, 6, 0, "01113", AND_OR_WORDS),
+    ("and/or, step limit 5", AND, OR, 0, 4096, 4096, 5, "steps", 4, "-", 3, 5, 0, "01113", AND_OR_WORDS),
+    ("and/or, step limit 6", AND, OR, 0, 4096, 4096, 6, "different", "-", "01", 4, 6, 0, "01111", AND_OR_WORDS),
+    ("and/or, size limit 1", AND, OR, 0, 1, 4096, 1000000, "size", "-", "-", 2, 6, 0, "01122", AND_OR_WORDS),
+    ("and/or, row limit 1", AND, OR, 0, 4096, 1, 1000000, "rows", 2, "-", 1, 0, 0, "01300", AND_OR_WORDS),
+    ("xor", XOR, OR_AND, 0, 4096, 4096, 1000000, "equal", "-", "-", 7, 18, 0, "011111111",
      "2,6,1,2,5,3,4,7,9,3,5,2,4,11,11,11,11"),
+    ("xor and, row limit 8", XOR_AND, FIRST_INPUT, 0, 4096, 8, 1000000, "rows", 7, "-", 6, 16, 2, "01111113", XOR_AND_WORDS),
+    ("xor and, row limit 7", XOR_AND, FIRST_INPUT, 0, 4096, 7, 1000000, "rows", 7, "-", 6, 16, 1, "01111113", XOR_AND_WORDS),
+    ("xor and, row limit 6", XOR_AND, FIRST_INPUT, 0, 4096, 6, 1000000, "rows", 7, "-", 6, 13, 0, "01111113", XOR_AND_WORDS),
+    ("xor and, step limit 13", XOR_AND, FIRST_INPUT, 0, 4096, 4096, 13, "steps", 7, "-", 6, 13, 1, "01111113", XOR_AND_WORDS),
+    ("and xor and, row limit 7", AND_XOR_AND, FIRST_INPUT, 0, 4096, 7, 1000000, "rows", 8, "-", 7, 17, 0, "011111113", AND_XOR_AND_WORDS),
+    ("and xor and, step limit 16", AND_XOR_AND, FIRST_INPUT, 0, 4096, 4096, 16, "steps", 8, "-", 7, 16, 0, "011111113", AND_XOR_AND_WORDS),
 ]
 
 
@@ -38,7 +50,7 @@ def drawing(text):
 
 
 def card(fields, goes_on):
-    name, left, right, output, size, rows, steps, reply, vertex, setting, made_rows, made_steps, marks, words = map(str, fields)
+    name, left, right, output, size, rows, steps, reply, vertex, setting, made_rows, made_steps, added, marks, words = map(str, fields)
     return "|".join([
         name,
         "" if goes_on else drawing(left),
@@ -48,6 +60,7 @@ def card(fields, goes_on):
         rows,
         steps,
         "\t".join(["1", output, reply, "-", vertex, made_rows, made_steps]) + "\n",
+        added,
         setting.strip("-") + "-",
         marks + "9",
         words + ",7",

@@ -4,15 +4,15 @@
 Writes CRATE/data/graphs.txt, the sweeps that the program `run_sweep` runs, and CRATE/stdout, what it must print.
 
 COMPARISONS (tools/comparisons.tsv) has a line for each comparison, with tabs between: list, left, right (lines parted by `;`,
-fields by `,`), output, size limit, row limit, step limit, then what must come: reply, vertex, setting, rows, steps, marks (a digit
-for each vertex), the table's words. Lines with the same list number follow one another on one table.
+fields by `,`), output, size limit, row limit, step limit, then what must come: reply, vertex, setting, rows, steps, rows added, marks
+(a digit for each vertex), the table's words. Lines with the same list number follow one another on one table.
 
 graphs.txt has a card for each comparison, with `%` between them, and each card's fields with `|` between them: list; how many
 vertices come first (the constant and the inputs) and how many there are; inputs; the two literals looked at; size limit, row limit, step
 limit; the graph as loaded (two words a vertex, with `,` between them); and the end of the line. The graph is empty where the card
 goes on with the graph as the card before left it.
 
-CRATE/stdout has a line for each: the reply's line with the list for the output, the marks, and the row of each made vertex as it is left.
+CRATE/stdout has a line for each: the reply's line with the list for the output, the rows added, the marks, and the row of each made vertex as it is left.
 """
 import sys
 
@@ -66,7 +66,7 @@ class Graph:
 
 def case(fields, goes_on):
     """The card of a comparison, and the line that must come."""
-    number, left, right, output, size, rows, steps, reply, vertex, setting, made_rows, made_steps, marks, table = fields
+    number, left, right, output, size, rows, steps, reply, vertex, setting, made_rows, made_steps, added, marks, table = fields
     inputs, made = map(int, table.split(",")[:2])
     graph = Graph(inputs)
     lefts = graph.load(left)
@@ -75,7 +75,7 @@ def case(fields, goes_on):
     looked_at = [lefts[int(output)], rights[int(output)]]
     card = [number, inputs + 1, len(graph.rows), inputs] + looked_at + [size, rows, steps, words, "\n"]
     after = table.split(",")[HEADER:HEADER + 2 * made]
-    line = [EDITION, number, reply, setting, vertex, made_rows, made_steps, marks] + list(map(",".join, zip(after[::2], after[1::2])))
+    line = [EDITION, number, reply, setting, vertex, made_rows, made_steps, added, marks] + list(map(",".join, zip(after[::2], after[1::2])))
     return "|".join(map(str, card)), "\t".join(line) + "\n"
 
 

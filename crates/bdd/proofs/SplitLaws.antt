@@ -9,7 +9,7 @@ use Rattle.bdd.specs.code.Split.{EndsAt, GoesOn, Halved}
 use Rattle.bdd.specs.declared.references.Halves.{Halves}
 use Rattle.truth.proofs.Booleans.{clash, not-true, or-cases, or-left, or-right}
 use Rattle.truth.proofs.Equality.{agree-equal, constant-equal, constantly-constant, same-equal}
-use Rattle.truth.proofs.Values.{perfect-conj, perfect-constant, perfect-invert, value-conj, value-constant, value-invert}
+use Rattle.truth.proofs.Values.{conj-symmetric, perfect-conj, perfect-constant, perfect-invert, value-conj, value-constant, value-invert}
 use Rattle.truth.specs.Parts.{alike?, depends?}
 use Rattle.truth.specs.Steps.{terminal?}
 use Rattle.truth.specs.Truth.{Perfect, Truth, conj, constant?, constantly, invert, node, same?, valueAt}
@@ -22,19 +22,9 @@ use native.Mathlib.Decide.{ℕ-discrete}
 use native.Mathlib.Omega.{arith}
 
 -- Conjunctions that are known at once.
-and-swaps : (x y : Bool) → x && y ≡ y && x
-and-swaps true true = refl
-and-swaps true false = refl
-and-swaps false true = refl
-and-swaps false false = refl
-
 and-opposite : (x : Bool) → false ≡ not x && x
 and-opposite true = refl
 and-opposite false = refl
-
-module _ {m : ℕ} {f g : Truth} (p : Perfect m f) (q : Perfect m g) where
-  pub conj-swaps : conj f g ≡ conj g f
-  conj-swaps = agree-equal (perfect-conj p q) (perfect-conj q p) (λ s e. value-conj f g s ∙ and-swaps (valueAt f s) (valueAt g s) ∙ sym (value-conj g f s))
 
 module _ {m : ℕ} {g : Truth} (q : Perfect m g) where
   conj-false : constantly m false ≡ conj (constantly m false) g
@@ -97,7 +87,7 @@ module _ (rows : List ℕ) (m : ℕ) where
   one-and g = rw denote-true (conj-true (denote-perfect rows m g))
 
   swap : (f g : ℕ) → conj (denote rows m f) (denote rows m g) ≡ conj (denote rows m g) (denote rows m f)
-  swap f g = conj-swaps (denote-perfect rows m f) (denote-perfect rows m g)
+  swap f g = conj-symmetric (denote rows m f) (denote rows m g)
 
 module _ (f g : ℕ) where
   pub false-left : f ≡ 0 → EndsAt f g 0

@@ -1,15 +1,16 @@
 -- Each reply of a comparison that is not refused keeps what the rules say of it: a law for each verdict of the sweep, and one for the marks.
 use Prim.Native.Nat.{ℕ}
 use Rattle.compare_model.proofs.RefusalLaws.{compared-answered}
-use Rattle.compare_model.proofs.ReplyLaws.{different-replied, equal-replied, marks-replied, rows-replied, rows-short, size-replied, steps-replied, steps-short, steps-spent}
+use Rattle.compare_model.proofs.ReplyLaws.{counts-replied, different-replied, equal-replied, marks-replied, rows-replied, rows-short, size-replied, steps-short}
 use Rattle.compare_model.proofs.Since.{Since}
-use Rattle.compare_model.specs.Claims.{Differs, MarksKept, ReplySays, StepsKept, problemBy}
+use Rattle.compare_model.specs.Claims.{CountsSettled, Differs, MarksKept, ReplySays, problemBy}
 use Rattle.compare_model.specs.Compare.{Given, Left, answerTo, answered, compared, refusalOf, saidBy, settingLeft}
 use Rattle.compare_model.specs.Said.{Named, Said}
 use Rattle.sweep_model.specs.Claims.{Names}
 use Rattle.sweep_model.specs.Sweep.{Verdict, different, equal, undecided}
 use Rattle.sweep_model.specs.declared.Cause.the-variants.{Rows, Size, Steps}
 use Rattle.truth.specs.Truth.{Setting}
+use lib.ListN.{length}
 use mathlib.Core.List.{List}
 use mathlib.Core.Path.{_≡_, refl, subst, sym}
 
@@ -20,30 +21,30 @@ module _ (g : Given) (h : refusalOf g ≡ 0) {loaded : List ℕ} (s : Since load
 
   -- What is said at a verdict.
   abbrev saidAt : Verdict → Said
-  saidAt x = answered g (record { verdict = x; left = answerTo g .left }) .reply
+  saidAt x = answered g (record { verdict = x; added = answerTo g .added; left = answerTo g .left }) .reply
 
-  -- The steps carried, unless by Rows or Steps, are the sum over the ANDs marked 1 or 2.
-  summed : {x : Verdict} → answerTo g .verdict ≡ x → ((v : ℕ) → Names x v → ⊥) → StepsKept loaded g left (answerTo g .left .book .steps)
-  summed k none = steps-replied g h s (λ v n. none v (subst (λ (y : Verdict). Names y v) k n))
+  -- Rows, steps and rows added, unless by Rows or Steps.
+  settled : {x : Verdict} → answerTo g .verdict ≡ x → ((v : ℕ) → Names x v → ⊥)
+      → CountsSettled loaded g left (length (answerTo g .left .book .store)) (answerTo g .left .book .steps) (answerTo g .added)
+  settled k none = counts-replied g h s (λ v n. none v (subst (λ (y : Verdict). Names y v) k n))
 
   -- Equal is said only where the two sides agree on every setting.
   equal-says : answerTo g .verdict ≡ equal → ReplySays loaded g left (saidAt equal)
   unfolding answered saidBy
-  equal-says k = (equal-replied g h s k, rows-replied g h s, summed k (λ v n. elim n [ ]))
+  equal-says k = (equal-replied g h s k, settled k (λ v n. elim n [ ]))
 
   -- Different is said only with the first setting on which the two sides disagree, written to the front of the setting slice.
   different-says : (t : Setting) → answerTo g .verdict ≡ different t → ReplySays loaded g left (saidAt (different t))
   unfolding answered saidBy settingLeft
   different-says t k = (
     subst (λ (x : Verdict). Differs loaded (g .output) (g .setting) (settingLeft x (g .setting))) (sym k) (different-replied g h s t k),
-    rows-replied g h s,
-    summed k (λ v n. elim n [ ]),
+    settled k (λ v n. elim n [ ]),
   )
 
   -- Size is said only where some AND is marked 2 and the sweep is at rest.
   size-says : answerTo g .verdict ≡ undecided Size → ReplySays loaded g left (saidAt (undecided Size))
   unfolding answered saidBy
-  size-says k = (size-replied g h s k, rows-replied g h s, summed k (λ v n. elim n [ ]))
+  size-says k = (size-replied g h s k, settled k (λ v n. elim n [ ]))
 
   -- A mark 3 stands at the vertex that is named, and the other marks mean what they say.
   marks-say : (x : Verdict) → answerTo g .verdict ≡ x → MarksKept (problemBy loaded g) (left .marks) (saidAt x)
@@ -61,15 +62,15 @@ module _ (g : Given) (h : refusalOf g ≡ 0) {loaded : List ℕ} (s : Since load
       named-verdict (undecided (Rows u)) v Named.by-rows = Names.by-rows
       named-verdict (undecided (Steps u)) v Named.by-steps = Names.by-steps
 
-  -- Rows is said only where the functions marked 1 or 3 have more parts than the row limit.
+  -- Rows is said only where the functions marked 1 or 3 have more parts than the row limit, with what the product that broke off used.
   rows-says : (v : ℕ) → answerTo g .verdict ≡ undecided (Rows v) → ReplySays loaded g left (saidAt (undecided (Rows v)))
   unfolding answered saidBy
   rows-says v k = (rows-short g h s v k, rows-replied g h s)
 
-  -- Steps is said only where the steps are the limit and with the vertex marked 3 there are more.
+  -- Steps is said only where the steps are the limit and with the vertex marked 3 there are more, and so of its product.
   steps-says : (v : ℕ) → answerTo g .verdict ≡ undecided (Steps v) → ReplySays loaded g left (saidAt (undecided (Steps v)))
   unfolding answered saidBy
-  steps-says v k = (steps-short g h s v k, rows-replied g h s, steps-spent g h s v k)
+  steps-says v k = (steps-short g h s v k, rows-replied g h s)
 
   -- Whatever the verdict, what is said of it holds.
   verdict-says : (x : Verdict) → answerTo g .verdict ≡ x → ReplySays loaded g left (saidAt x)

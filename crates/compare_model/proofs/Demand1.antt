@@ -108,11 +108,11 @@ module _ (g : Given) where
   unfolding answered saidBy
   compare-answers h =
       rw (compared-answered g (compare-accepts h))
-      (said (answerTo g .verdict) (length (answerTo g .left .book .store)) (answerTo g .left .book .steps))
+      (said (answerTo g .verdict) (length (answerTo g .left .book .store)) (answerTo g .left .book .steps) (answerTo g .added))
     where
-      said : (x : Verdict) (rows steps : ℕ) → Answers (saidBy x rows steps)
-      said equal rows steps = says-equal
-      said (different s) rows steps = says-different
-      said (undecided Size) rows steps = says-size
-      said (undecided (Rows v)) rows steps = says-rows
-      said (undecided (Steps v)) rows steps = says-steps
+      said : (x : Verdict) (rows steps added : ℕ) → Answers (saidBy x rows steps added)
+      said equal rows steps added = says-equal
+      said (different s) rows steps added = says-different
+      said (undecided Size) rows steps added = says-size
+      said (undecided (Rows v)) rows steps added = says-rows
+      said (undecided (Steps v)) rows steps added = says-steps

@@ -12,7 +12,7 @@ pub demand2 : Demand2
 demand2 g h =
     let s : Since (g .table) (g .table) = since-loaded (passed g h .table) in
     record {
-      equal = λ rows steps e. subst (ReplySays (g .table) g (compared g)) e (reply-says g h s) .0;
-      different = λ rows steps e. subst (ReplySays (g .table) g (compared g)) e (reply-says g h s) .0;
+      equal = λ rows steps added e. subst (ReplySays (g .table) g (compared g)) e (reply-says g h s) .0;
+      different = λ rows steps added e. subst (ReplySays (g .table) g (compared g)) e (reply-says g h s) .0;
       values = since-value (since-compared g s);
     }

@@ -1,18 +1,20 @@
 -- What the verdict of a comparison that is not refused says, in terms of the table as loaded.
 use Prim.Native.Nat.{_+_, _-_, _<_, _≤_, suc, ℕ}
+use Rattle.aig.specs.Lookup.{firstWord, secondWord}
 use Rattle.compare_model.proofs.GraphLaws.{count-vertices, left-literal, right-literal}
 use Rattle.compare_model.proofs.RefusalLaws.{passed}
 use Rattle.compare_model.proofs.RestLaws.{rest-alike}
 use Rattle.compare_model.proofs.Since.{Since, given-fits, given-rows, since-value}
-use Rattle.compare_model.specs.Claims.{AfterRows, AfterSize, AfterSteps, Agrees, Differs, MarksKept, RowsKept, StepsKept, problemBy}
+use Rattle.compare_model.specs.Claims.{AfterSize, Agrees, CountsSettled, Differs, MarksKept, RowsKept, RowsSay, StepsSay, problemBy}
 use Rattle.compare_model.specs.Compare.{Given, answerTo, answered, graphWords, overFront, problemOf, refusalOf, settingBytes}
 use Rattle.compare_model.specs.Said.{Named, Said}
+use Rattle.product_model.specs.Run.{Book, Outcome, run}
 use Rattle.sweep_model.proofs.AfterRest.{after-rest}
-use Rattle.sweep_model.proofs.Kept.{pair-steps}
+use Rattle.sweep_model.proofs.Kept.{pair-runs, pair-steps}
 use Rattle.sweep_model.proofs.Marked.{andAt, ands-at, ands-length}
-use Rattle.sweep_model.proofs.ReplyLaws.{constant-mark, mark-known, marked-unmerged, marks-long, one-small, rows-counted, rows-passed, size-some, steps-counted, steps-full, steps-passed, three-named, two-large, two-made}
+use Rattle.sweep_model.proofs.ReplyLaws.{after-rows, after-steps, constant-mark, counts-settled, mark-known, marked-unmerged, marks-long, one-small, rows-counted, size-some, three-named, two-large, two-made}
 use Rattle.sweep_model.proofs.Right.{different-right, equal-right}
-use Rattle.sweep_model.specs.Claims.{And, Names, andSteps, andsFrom, andsOf, is, isEither, marked, sum}
+use Rattle.sweep_model.specs.Claims.{And, BrokeAt, BrokeOff, Names, andSteps, andsFrom, andsOf, at-and, at-input, by-rows, by-steps, is, isEither, marked, sum}
 use Rattle.sweep_model.specs.Fit.{vertexCount}
 use Rattle.sweep_model.specs.Normalise.{merged?}
 use Rattle.sweep_model.specs.State.{Problem, functionOf, literalFunction}
@@ -21,7 +23,8 @@ use Rattle.sweep_model.specs.declared.Cause.the-variants.{Rows, Size, Steps}
 use Rattle.table.proofs.FunctionLaws.{value-output}
 use Rattle.table.specs.Table.{graphOf, inputsOf, outputFunction, outputValue, verticesOf}
 use Rattle.truth.proofs.Booleans.{clash}
-use Rattle.truth.specs.Parts.{together}
+use Rattle.truth.specs.Distinct.{among}
+use Rattle.truth.specs.Parts.{alike?, allParts, together}
 use Rattle.truth.specs.Truth.{Setting, Truth, valueAt}
 use lib.ListN.{List·getD-append, List·getD-eq-default, drop, getD, length, length-drop}
 use lib.Seq.{drop-append-le, getD-drop}
@@ -82,6 +85,10 @@ mark-within marks v h =
 -- The steps of the ANDs whose mark passes a test.
 abbrev stepsOf : (ℕ → Bool) → Problem → List ℕ → List ℕ → ℕ
 stepsOf test p rows marks = sum (map andSteps (marked test (drop (p .first) marks) (andsOf p rows)))
+
+-- The product of AND v on a book, the operands by given rows.
+abbrev runBy : Problem → List ℕ → ℕ → Book → Outcome
+runBy p rows v b = run (p .limits .rows) (p .limits .steps) (literalFunction p (firstWord rows v)) (literalFunction p (secondWord rows v)) b
 
 -- Sums of steps by two problems and their rows are the same where they are so of each AND whose mark passes.
 sum-alike : (test : ℕ → Bool) (p q : Problem) (rows other marks more : List ℕ) → p .first ≡ q .first → vertexCount p ≡ vertexCount q
@@ -146,10 +153,21 @@ module _ (g : Given) (h : refusalOf g ≡ 0) {loaded : List ℕ} (s : Since load
   unfolding answered problemOf
   functions-marked test = rw (s .functions) (sym (marked-front test marks (drop (length marks) (g .marks)) (there .functions) (omega (arith, long, count))))
 
+  -- A vertex that is marked was not merged in the table as given.
+  mark-unmerged : (v : ℕ) → there .first ≤ v → getD (answerTo g .left .marks) v 0 ≢ 0 → merged? (graphWords (g .table)) v ≡ false
+  unfolding answerTo
+  mark-unmerged v l d = marked-unmerged (given-fits g h) v (omega (arith, same-first)) d
+
+  -- Its steps and its product are those of the operands as loaded.
   same-steps : (v : ℕ) → there .first ≤ v → v < verticesOf loaded → merged? (graphWords (g .table)) v ≡ false
       → andSteps (andAt here (graphWords (g .table)) v) ≡ andSteps (andAt there (graphWords loaded) v)
   unfolding problemOf
   same-steps v l m e = rw (s .functions, s .inputs) (pair-steps (s .operands v l m e))
+
+  same-run : (v : ℕ) (b : Book) → there .first ≤ v → v < verticesOf loaded → merged? (graphWords (g .table)) v ≡ false
+      → runBy (problemBy (g .table) g) (graphWords (g .table)) v b ≡ runBy (problemBy loaded g) (graphWords loaded) v b
+  unfolding problemOf
+  same-run v b l m e = rw (s .functions, s .inputs) (pair-runs (g .limits .rows) (g .limits .steps) b (s .operands v l m e))
 
   -- Where a test passes no mark 0, the steps of the ANDs marked are those of the table as loaded.
   steps-marked : (test : ℕ → Bool) → test 0 ≡ false
@@ -158,10 +176,7 @@ module _ (g : Given) (h : refusalOf g ≡ 0) {loaded : List ℕ} (s : Since load
   unfolding answered
   steps-marked test none =
       sum-alike test here there (graphWords (g .table)) (graphWords loaded) marks (drop (length marks) (g .marks)) same-first same-count (long ∙ sym count) first-few
-      (λ v l m e. same-steps v l (omega (arith, count)) (unmerged v l (λ z. clash e (ap test z ∙ none))))
-    where
-      unmerged : (v : ℕ) → there .first ≤ v → getD marks v 0 ≢ 0 → merged? (graphWords (g .table)) v ≡ false
-      unmerged v l d = unfold answerTo in marked-unmerged (given-fits g h) v (omega (arith, same-first)) d
+      (λ v l m e. same-steps v l (omega (arith, count)) (mark-unmerged v l (λ z. clash e (ap test z ∙ none))))
 
   -- A mark as written is the sweep's.
   mark-written : (v : ℕ) → v < vertexCount there → getD (answerTo g .left .marks) v 0 ≡ getD (answered g (answerTo g) .marks) v 0
@@ -177,10 +192,13 @@ module _ (g : Given) (h : refusalOf g ≡ 0) {loaded : List ℕ} (s : Since load
   unfolding answerTo
   rows-replied = rows-counted (given-fits g h) ∙ ap together (functions-marked (is 1))
 
-  -- The steps are those of the ANDs marked 1 or 2, where the verdict names no vertex.
-  pub steps-replied : ((v : ℕ) → Names (answerTo g .verdict) v → ⊥) → StepsKept loaded g (answered g (answerTo g)) (answerTo g .left .book .steps)
+  -- Where the verdict names no vertex, the steps are those of the ANDs marked 1 or 2, and no rows are added.
+  pub counts-replied : ((v : ℕ) → Names (answerTo g .verdict) v → ⊥)
+      → CountsSettled loaded g (answered g (answerTo g)) (length (answerTo g .left .book .store)) (answerTo g .left .book .steps) (answerTo g .added)
   unfolding answerTo
-  steps-replied unnamed = steps-counted (given-fits g h) unnamed ∙ steps-marked (isEither 1 2) refl
+  counts-replied unnamed =
+      let x = counts-settled (given-fits g h) unnamed in
+      record { rows-kept = rows-replied; steps-kept = x .0 ∙ steps-marked (isEither 1 2) refl; none-added = x .1 }
 
   -- On a setting the two literals' functions have the output's values on the two sides of the table as loaded.
   same-value : (side : ℕ) (t : Setting) → length t ≡ inputsOf loaded
@@ -230,24 +248,6 @@ module _ (g : Given) (h : refusalOf g ≡ 0) {loaded : List ℕ} (s : Since load
         at-rest = rest-alike same-first same-count (sym (given-rows g h)) first-few mark-written (after-rest (given-fits g h) e);
       }
 
-  -- After Rows the functions marked 1 or 3 have more parts than the row limit.
-  pub rows-short : (v : ℕ) → answerTo g .verdict ≡ undecided (Rows v) → AfterRows (problemBy loaded g) (answered g (answerTo g) .marks)
-  unfolding answerTo problemOf
-  rows-short v e =
-      subst (λ (n : ℕ). here .limits .rows < n) (ap together (functions-marked (isEither 1 3))) (rows-passed (given-fits g h) v e)
-
-  -- After Steps the steps are the limit,
-  pub steps-spent : (v : ℕ) → answerTo g .verdict ≡ undecided (Steps v) → answerTo g .left .book .steps ≡ g .limits .steps
-  unfolding answerTo problemOf
-  steps-spent v e = steps-full (given-fits g h) v e
-
-  -- and with the vertex marked 3 the ANDs marked take more.
-  pub steps-short : (v : ℕ) → answerTo g .verdict ≡ undecided (Steps v)
-      → AfterSteps (problemBy loaded g) (graphWords loaded) (answered g (answerTo g) .marks)
-  unfolding answerTo problemOf
-  steps-short v e =
-      subst (λ (n : ℕ). here .limits .steps < n) (steps-marked (λ m. isEither 1 2 m || is 3 m) refl) (steps-passed (given-fits g h) v e)
-
   -- The vertex that the verdict names, and no other, is marked 3.
   named-marked : (v : ℕ) → Names (answerTo g .verdict) v
       ↔ ((v < vertexCount (problemBy loaded g)) × (getD (answered g (answerTo g) .marks) v 0 ≡ 3))
@@ -259,6 +259,61 @@ module _ (g : Given) (h : refusalOf g ≡ 0) {loaded : List ℕ} (s : Since load
         (l, sym (mark-written v l) ∙ m),
     λ x. three-named (given-fits g h) v .1 (mark-written v (x .0) ∙ x .1),
   )
+
+  -- What is said of a product that broke off is said of it with the operands as loaded.
+  broke-replied :
+      {short : Book → Outcome} {v rows steps added : ℕ} → Names (answerTo g .verdict) v
+      → BrokeOff (problemBy (g .table) g) (graphWords (g .table)) (answerTo g .left .marks) short v rows steps added
+      → BrokeOff (problemBy loaded g) (graphWords loaded) (answered g (answerTo g) .marks) short v rows steps added
+  broke-replied {v = v} n x =
+      let m = named-marked v .0 n in
+      let l : there .first ≤ v = omega (arith, x .made, same-first) in
+      record {
+        made = l;
+        before = x .before;
+        after = x .after;
+        parts-before = λ t. x .parts-before t ∙ ap (λ (fs : List Truth). among alike? t (allParts fs)) (functions-marked (is 1));
+        rows-before = x .rows-before;
+        steps-before = x .steps-before ∙ steps-marked (isEither 1 2) refl;
+        ran =
+            sym
+            (same-run v (x .before) l (omega (arith, m .0, count))
+            (mark-unmerged v l (λ z. let i : _≡_ {A = ℕ} 3 0 = sym (m .1) ∙ sym (mark-written v (m .0)) ∙ z in omega arith)))
+            ∙ x .ran;
+        rows-after = x .rows-after;
+        steps-after = x .steps-after;
+      }
+
+  broke-at :
+      {v rows steps added : ℕ} → Names (answerTo g .verdict) v
+      → BrokeAt (problemBy (g .table) g) (graphWords (g .table)) (answerTo g .left .marks) v rows steps added
+      → BrokeAt (problemBy loaded g) (graphWords loaded) (answered g (answerTo g) .marks) v rows steps added
+  broke-at n (at-and x) = at-and (broke-replied n x)
+  broke-at n (at-input l e z) = at-input (omega (arith, l, same-first)) e z
+
+  -- What is said after Rows,
+  pub rows-short : (v : ℕ) → answerTo g .verdict ≡ undecided (Rows v)
+      → RowsSay loaded g (answered g (answerTo g)) v (length (answerTo g .left .book .store)) (answerTo g .left .book .steps) (answerTo g .added)
+  unfolding answerTo problemOf
+  rows-short v e =
+      let x = after-rows (given-fits g h) v e in
+      record {
+        over = subst (λ (n : ℕ). here .limits .rows < n) (ap together (functions-marked (isEither 1 3))) (x .over);
+        full = x .full;
+        broke = broke-at (rw e by-rows) (x .broke);
+      }
+
+  -- and after Steps.
+  pub steps-short : (v : ℕ) → answerTo g .verdict ≡ undecided (Steps v)
+      → StepsSay loaded g (answered g (answerTo g)) v (length (answerTo g .left .book .store)) (answerTo g .left .book .steps) (answerTo g .added)
+  unfolding answerTo problemOf
+  steps-short v e =
+      let x = after-steps (given-fits g h) v e in
+      record {
+        over = subst (λ (n : ℕ). here .limits .steps < n) (steps-marked (λ m. isEither 1 2 m || is 3 m) refl) (x .over);
+        full = x .full;
+        broke = broke-replied (rw e by-steps) (x .broke);
+      }
 
   -- What the marks mean, where the same vertices are named.
   pub marks-replied : (x : Said) → ((v : ℕ) → Named x v ↔ Names (answerTo g .verdict) v)

@@ -1,9 +1,9 @@
 -- What the rules say of the reply of a comparison that is not refused, in terms of the table as loaded, what the comparison was given
--- and what it left. (RULES 7.2 to 7.10, 12.2)
+-- and what it left. (RULES 7.2 to 7.11, 12.2)
 use Prim.Native.Nat.{_<_, _≤_, ℕ}
 use Rattle.compare_model.specs.Compare.{Given, Left, graphWords, overFront, problemOf, settingBytes}
 use Rattle.compare_model.specs.Said.{Named, Said}
-use Rattle.sweep_model.specs.Claims.{AtRest, rowsMarked, rowsMarkedWithLast, stepsMarked, stepsMarkedWithLast}
+use Rattle.sweep_model.specs.Claims.{AfterRows, AfterSteps, AtRest, rowsMarked, stepsMarked}
 use Rattle.sweep_model.specs.State.{Problem, functionOf}
 use Rattle.table.specs.Table.{graphOf, inputsOf, outputValue}
 use Rattle.truth.specs.Parts.{size}
@@ -59,24 +59,26 @@ pub record AfterSize (p : Problem) (marks rows : List ℕ) : Type 0 where
   pub mark : getD marks vertex 0 ≡ 2
   pub at-rest : AtRest (p .first) (length (p .functions)) marks rows rows
 
--- "After Rows, the functions marked 1 or 3 have more parts than the row limit." (RULES 7.8)
-abbrev pub AfterRows : Problem → List ℕ → Type 0
-AfterRows p marks = p .limits .rows < rowsMarkedWithLast p marks
+-- "After Equal, Different and Size, steps = the sum over ANDs marked 1 or 2.", "the rows added, 0 where none broke". (RULES 7.6, 7.11)
+pub record CountsSettled (loaded : List ℕ) (given : Given) (left : Left) (rows steps added : ℕ) : Type 0 where
+  pub rows-kept : RowsKept loaded given left rows
+  pub steps-kept : StepsKept loaded given left steps
+  pub none-added : added ≡ 0
 
--- "After Steps, .. the sum with the vertex marked 3 exceeds [the limit].", the operands by the entry rows. (RULES 7.7)
-abbrev pub AfterSteps : Problem → List ℕ → List ℕ → Type 0
-AfterSteps p entry marks = p .limits .steps < stepsMarkedWithLast p entry marks
+-- What is said after Rows and after Steps, the functions and operands those of the table as loaded. (RULES 7.7, 7.8, 7.11)
+abbrev pub RowsSay : List ℕ → Given → Left → ℕ → ℕ → ℕ → ℕ → Type 0
+RowsSay loaded given left v rows steps added = AfterRows (problemBy loaded given) (graphWords loaded) (left .marks) v rows steps added
 
--- What is said of each reply of a comparison that is not refused, beside its marks. "After Steps, steps = the limit". It says no refusal.
--- (RULES 7.7)
+abbrev pub StepsSay : List ℕ → Given → Left → ℕ → ℕ → ℕ → ℕ → Type 0
+StepsSay loaded given left v rows steps added = AfterSteps (problemBy loaded given) (graphWords loaded) (left .marks) v rows steps added
+
+-- What is said of each reply of a comparison that is not refused, beside its marks. It says no refusal. (RULES 7.5 to 7.11)
 abbrev pub ReplySays : List ℕ → Given → Left → Said → Type 0
 ReplySays loaded given left (Said.refused n) = ⊥
-ReplySays loaded given left (Said.equal rows steps) =
-    Agrees loaded (given .output) × RowsKept loaded given left rows × StepsKept loaded given left steps
-ReplySays loaded given left (Said.different rows steps) =
-    Differs loaded (given .output) (given .setting) (left .setting) × RowsKept loaded given left rows × StepsKept loaded given left steps
-ReplySays loaded given left (Said.size rows steps) =
-    AfterSize (problemBy loaded given) (left .marks) (graphWords (left .table)) × RowsKept loaded given left rows × StepsKept loaded given left steps
-ReplySays loaded given left (Said.rows v rows steps) = AfterRows (problemBy loaded given) (left .marks) × RowsKept loaded given left rows
-ReplySays loaded given left (Said.steps v rows steps) =
-    AfterSteps (problemBy loaded given) (graphWords loaded) (left .marks) × RowsKept loaded given left rows × (steps ≡ given .limits .steps)
+ReplySays loaded given left (Said.equal rows steps added) = Agrees loaded (given .output) × CountsSettled loaded given left rows steps added
+ReplySays loaded given left (Said.different rows steps added) =
+    Differs loaded (given .output) (given .setting) (left .setting) × CountsSettled loaded given left rows steps added
+ReplySays loaded given left (Said.size rows steps added) =
+    AfterSize (problemBy loaded given) (left .marks) (graphWords (left .table)) × CountsSettled loaded given left rows steps added
+ReplySays loaded given left (Said.rows v rows steps added) = RowsSay loaded given left v rows steps added × RowsKept loaded given left rows
+ReplySays loaded given left (Said.steps v rows steps added) = StepsSay loaded given left v rows steps added × RowsKept loaded given left rows

@@ -125,17 +125,18 @@ settingLeft equal old = old
 settingLeft (different s) old = overFront (settingBytes s) old
 settingLeft (undecided c) old = old
 
--- "All carry rows and steps.": what is said at a verdict, with the rows in use and the steps taken. (RULES 7.3)
-unfoldable pub saidBy : Verdict → ℕ → ℕ → Said
-saidBy equal rows steps = Said.equal rows steps
-saidBy (different s) rows steps = Said.different rows steps
-saidBy (undecided x) rows steps = undecidedBy x rows steps
+-- "All carry rows and steps.", "Each reply .. also carries the rows added": what is said at a verdict, with the rows in use, the steps taken and
+-- the rows added. (RULES 7.3)
+unfoldable pub saidBy : Verdict → ℕ → ℕ → ℕ → Said
+saidBy equal rows steps added = Said.equal rows steps added
+saidBy (different s) rows steps added = Said.different rows steps added
+saidBy (undecided x) rows steps added = undecidedBy x rows steps added
 
 -- What a comparison that is not refused leaves: "Marks, one byte a vertex, all written at a reply, later bytes unchanged". (RULES 7.4)
 unfoldable pub answered : Given → Result → Left
 answered g a =
     record {
-      reply = saidBy (a .verdict) (length (a .left .book .store)) (a .left .book .steps);
+      reply = saidBy (a .verdict) (length (a .left .book .store)) (a .left .book .steps) (a .added);
       table = tableLeft (g .table) (a .left .rows);
       marks = overFront (a .left .marks) (g .marks);
       setting = settingLeft (a .verdict) (g .setting);

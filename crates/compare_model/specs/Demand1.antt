@@ -30,8 +30,8 @@ pub record Good (g : Given) : Type 0 where
 
 -- "Replies: Equal; Different; Undecided by Size ..; by Rows ..; by Steps ..": what is said is no refusal. (RULES 7.3)
 pub data Answers : Said → Type 0 where
-  says-equal : {rows steps : ℕ} → Answers (Said.equal rows steps)
-  says-different : {rows steps : ℕ} → Answers (Said.different rows steps)
-  says-size : {rows steps : ℕ} → Answers (Said.size rows steps)
-  says-rows : {vertex rows steps : ℕ} → Answers (Said.rows vertex rows steps)
-  says-steps : {vertex rows steps : ℕ} → Answers (Said.steps vertex rows steps)
+  says-equal : {rows steps added : ℕ} → Answers (Said.equal rows steps added)
+  says-different : {rows steps added : ℕ} → Answers (Said.different rows steps added)
+  says-size : {rows steps added : ℕ} → Answers (Said.size rows steps added)
+  says-rows : {vertex rows steps added : ℕ} → Answers (Said.rows vertex rows steps added)
+  says-steps : {vertex rows steps added : ℕ} → Answers (Said.steps vertex rows steps added)

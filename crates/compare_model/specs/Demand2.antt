@@ -11,8 +11,8 @@ use mathlib.Core.Path.{_≡_}
 -- "Equal is said only where two outputs agree on every setting, Different only with the first setting, in counting order, on which they
 -- disagree.", and every output keeps its value on every setting. (RULES 12.2, 12.3)
 pub record Right (g : Given) (left : Left) : Type 0 where
-  pub equal : (rows steps : ℕ) → left .reply ≡ Said.equal rows steps → Agrees (g .table) (g .output)
-  pub different : (rows steps : ℕ) → left .reply ≡ Said.different rows steps → Differs (g .table) (g .output) (g .setting) (left .setting)
+  pub equal : (rows steps added : ℕ) → left .reply ≡ Said.equal rows steps added → Agrees (g .table) (g .output)
+  pub different : (rows steps added : ℕ) → left .reply ≡ Said.different rows steps added → Differs (g .table) (g .output) (g .setting) (left .setting)
   pub values : (side k : ℕ) (s : Setting) → k < outputsOf (g .table) → length s ≡ inputsOf (g .table)
       → outputValue (graphOf (left .table)) side k s ≡ outputValue (graphOf (g .table)) side k s
 

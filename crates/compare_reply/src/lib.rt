@@ -7,7 +7,7 @@ use sweep_model::Counts;
 use sweep_model::Reply;
 use sweep_state::end::End;
 use sweep_state::end::Ended;
-ghost use Prim.Native.Nat.{_≤_, ℕ};
+ghost use Prim.Native.Nat.{_+_, _≤_, ℕ};
 ghost use Rattle.bdd.specs.code.Store.{Store};
 ghost use Rattle.compare_model.specs.Compare.{maxRows, maxSteps, saidBy, settingLeft};
 ghost use Rattle.compare_model.specs.Said.{saidOf};
@@ -16,14 +16,15 @@ ghost use lib.ListN.{length};
 ghost use mathlib.Core.List.{List};
 ghost use mathlib.Core.Path.{_≡_};
 
-// The reply, with the rows used and the steps taken.
+// The reply, with the rows used, the steps taken and the rows added.
 pub fn reply_of(ended: Ended) -> Reply
-    requires { ⌜ (ended .used ≤ maxRows) × (ended .steps ≤ maxSteps) ⌝ }
-    ensures { λ r. ⌜ ((rows : List ℕ) (inputs : ℕ) → saidOf r ≡ saidBy (verdictOf rows inputs (ended .end)) (ended .used) (ended .steps)) ⌝ }
+    requires { ⌜ (ended .used + ended .added ≤ maxRows) × (ended .steps ≤ maxSteps) ⌝ }
+    ensures { λ r. ⌜ ((rows : List ℕ) (inputs : ℕ) → saidOf r ≡ saidBy (verdictOf rows inputs (ended .end)) (ended .used) (ended .steps) (ended .added)) ⌝ }
 {
     let counts = Counts {
         rows: ended.used as u32,
         steps: ended.steps as u32,
+        added: ended.added as u32,
     };
     let end = ended.end;
     match end {

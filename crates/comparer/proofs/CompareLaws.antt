@@ -49,13 +49,13 @@ module _ (g : Given) where
     -- What was finished is the comparison.
     pub finished : refusalOf g ≡ 0 → (reply : Reply) (table setting : List ℕ) → table ≡ tableLeft (g .table) (take (2 * verticesOf (g .table)) pairs)
         → setting ≡ settingLeft (verdictOf rows (inputsOf (g .table)) (e .end)) (g .setting)
-        → saidOf reply ≡ saidBy (verdictOf rows (inputsOf (g .table)) (e .end)) (e .used) (e .steps) → left (saidOf reply) table marks setting ≡ compared g
+        → saidOf reply ≡ saidBy (verdictOf rows (inputsOf (g .table)) (e .end)) (e .used) (e .steps) (e .added) → left (saidOf reply) table marks setting ≡ compared g
     unfolding answered
     finished h reply table setting t s r =
         let table-left : table ≡ tableLeft (g .table) (answerTo g .left .rows) = t ∙ ap (tableLeft (g .table)) (sym (ran .rows-left)) in
         let setting-left : setting ≡ settingLeft (answerTo g .verdict) (g .setting) = s ∙ ap (λ (v : Verdict). settingLeft v (g .setting)) (sym (ran .verdict)) in
-        let replied : saidOf reply ≡ saidBy (answerTo g .verdict) (length (answerTo g .left .book .store)) (answerTo g .left .book .steps) =
-        r ∙ sym (rw (ran .verdict, ran .rows-used, ran .steps-taken)) in
+        let replied : saidOf reply ≡ saidBy (answerTo g .verdict) (length (answerTo g .left .book .store)) (answerTo g .left .book .steps) (answerTo g .added) =
+        r ∙ sym (rw (ran .verdict, ran .rows-used, ran .steps-taken, ran .rows-added)) in
         ap₂ (λ (x : Said) (ws : List ℕ). left x ws marks setting) replied table-left
         ∙ ap₂ (left (answered g (answerTo g) .reply) (tableLeft (g .table) (answerTo g .left .rows))) (sym (ran .marks-left)) setting-left
         ∙ sym (compared-answered g h)

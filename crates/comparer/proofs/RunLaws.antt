@@ -120,8 +120,9 @@ module _ (table : List ℕ) (output : ℕ) (limits : Limits) (accepted : Accepte
             marks-left = rw (marks-left, kept, lent-marks) refl;
             rows-used = ap (λ (a : Result). length (a .left .book .store)) (answers .answer) ∙ store-length (after .arrays .rows) (e .used);
             steps-taken = ap (λ (a : Result). a .left .book .steps) (answers .answer);
+            rows-added = ap (λ (a : Result). a .added) (answers .answer);
             store = rw (task .rows) at (answers .closed .store);
             refers = rw (task .inputs) at (answers .closed .refers);
-            within = omega (arith, answers .closed .store .room .used, task .rows, within .rows .bounded);
+            within = omega (arith, answers .closed .fitted, task .rows, within .rows .bounded);
             counted = omega (arith, answers .closed .counted, task .steps, within .steps .bounded);
           }

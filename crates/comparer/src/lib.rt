@@ -14,8 +14,9 @@ ghost use Rattle.comparer.specs.Lent.{Compared, slices};
 // - Equal: the output has one function on both sides;
 // - Different: it has two, and the front of the setting is the first setting on which they differ, a byte 48 or 49 for each input;
 // - Undecided, with the cause: a limit was passed.
-// Where it is not refused, the reply carries the rows used and the steps taken, the table holds the rows and the outputs that the sweep left, and
-// the front of the marks has a byte for each vertex. The five slices after the limits are worked in: only their lengths matter.
+// Where it is not refused, the reply carries the rows used, the steps taken and the rows that a product which broke off had added (0 where none
+// did), the table holds the rows and the outputs that the sweep left, and the front of the marks has a byte for each vertex. The five slices after
+// the limits are worked in: only their lengths matter.
 pub fn compare(
     table: &mut [u32],
     output: u32,

@@ -65,7 +65,7 @@ pub fn finish(
     requires { ⌜ Finishes (now table) (now pairs) (now rows) limit ended (length (now setting)) ⌝ }
     ensures { λ _. ⌜ now (table .exit) ≡ tableLeft (now (table .entry)) (take (2 * verticesOf (now (table .entry))) (now (pairs .entry))) ⌝ }
     ensures { λ _. ⌜ now (setting .exit) ≡ settingLeft (verdictOf (now (rows .entry)) (inputsOf (now (table .entry))) (ended .end)) (now (setting .entry)) ⌝ }
-    ensures { λ r. ⌜ saidOf r ≡ saidBy (verdictOf (now (rows .entry)) (inputsOf (now (table .entry))) (ended .end)) (ended .used) (ended .steps) ⌝ }
+    ensures { λ r. ⌜ saidOf r ≡ saidBy (verdictOf (now (rows .entry)) (inputsOf (now (table .entry))) (ended .end)) (ended .used) (ended .steps) (ended .added) ⌝ }
 {
     let inputs = table::inputs(&table[..]) as usize;
     let words = 2 * table::vertices(&table[..]);

@@ -20,11 +20,11 @@ module _ {d e : Netlist} (h : Loadable d e) (old : List ℕ) (g : Given) (s : Si
   -- The limits rule out each cause.
   reply-decides : (x : Said) → ReplySays (tableOf d e old) g (compared g) x → ReplyKept d e (tableOf d e old) g (compared g) x → Decided d e (g .output) x
   reply-decides (Said.refused n) says k = absurd says
-  reply-decides (Said.equal rows steps) says k = is-equal (k .1)
-  reply-decides (Said.different rows steps) says k = is-different (λ agree. k .1 .differ (agree (k .1 .setting) (k .1 .digits)))
-  reply-decides (Said.size rows steps) says k = absurd (enough .small (k .1))
-  reply-decides (Said.rows v rows steps) says k = absurd (enough .few-parts (k .1))
-  reply-decides (Said.steps v rows steps) says k = absurd (enough .few-steps (k .1))
+  reply-decides (Said.equal rows steps added) says k = is-equal (k .1)
+  reply-decides (Said.different rows steps added) says k = is-different (λ agree. k .1 .differ (agree (k .1 .setting) (k .1 .digits)))
+  reply-decides (Said.size rows steps added) says k = absurd (enough .small (k .1))
+  reply-decides (Said.rows v rows steps added) says k = absurd (enough .few-parts (k .1))
+  reply-decides (Said.steps v rows steps added) says k = absurd (enough .few-steps (k .1))
 
   -- A comparison that is not refused decides.
   decides : Decided d e (g .output) (compared g .reply)

@@ -90,14 +90,14 @@ module _ (g : Given) (h : refusalOf g ≡ 0) (room : ℕ) (enough : verticesOf (
       }
 
 -- After Different, evaluate finds the two sides different on the setting that was written, where its working slice is long enough.
-pub different-confirmed : (g : Given) (rows steps room : ℕ) → compared g .reply ≡ Said.different rows steps → verticesOf (g .table) ≤ room
+pub different-confirmed : (g : Given) (rows steps added room : ℕ) → compared g .reply ≡ Said.different rows steps added → verticesOf (g .table) ≤ room
     → Confirmed g (compared g) room
 unfolding turnedBack
-different-confirmed g rows steps room e enough =
+different-confirmed g rows steps added room e enough =
     elim (ℕ-discrete (refusalOf g) 0) [
-      | yes h ↦ confirmed g h room enough (demand2 g h .different rows steps e)
+      | yes h ↦ confirmed g h room enough (demand2 g h .different rows steps added e)
       | no h ↦ other (ap (λ (l : Left). l .reply) (sym (compared-refused g h)) ∙ e)
     ]
   where
-    other : Said.refused (refusalOf g) ≡ Said.different rows steps → Confirmed g (compared g) room
+    other : Said.refused (refusalOf g) ≡ Said.different rows steps added → Confirmed g (compared g) room
     other k = impossible (cc)

@@ -66,12 +66,12 @@ table = refl
 -- The calls on it: none changes it.
 record Computed : Type 0 where
   first-accepted : refusalOf (comparisonOf 0 leastLimits words) ≡ 0
-  first-reply : compared (comparisonOf 0 leastLimits words) .reply ≡ Said.different 4 6
+  first-reply : compared (comparisonOf 0 leastLimits words) .reply ≡ Said.different 4 6 0
   first-setting : compared (comparisonOf 0 leastLimits words) .setting ≡ 48 ∷ 49 ∷ []
   first-table : compared (comparisonOf 0 leastLimits words) .table ≡ words
   second-reply : compared (comparisonOf 1 usual words) .reply ≡ Said.refused 12
   second-table : compared (comparisonOf 1 usual words) .table ≡ words
-  third-reply : compared (comparisonOf 0 sizeOne words) .reply ≡ Said.size 2 6
+  third-reply : compared (comparisonOf 0 sizeOne words) .reply ≡ Said.size 2 6 0
 
 computed : Computed
 unfolding answerTo answered beyond? compared graphWords outputsLeft outside? problemOf refusalOf settingBytes settingLeft shortSlice? tableLeft turnedBack outputWords pairs rowsOf sideOutputs malformed? beyondLimits? outOfOrder? downward? allBelow? rowBelow? graphOf functionsOf firstFunctions inputsFrom firstRefusal vertexValues conj constant? constantly input invert same? sweep resultOf conclude giveRow go goFor meet multiply openAt pickFrom ready? scanFrom smaller swept topPart turnsLeft turnsOf twinFrom visit dropAt giveRows start look lookAt andThen begin normalise normaliseFrom normaliseRow foldedRow foundRow resolve takesFrom takeAt wakeAt wake has? gone? bare? dropped? open? waits? saidBy foldOf firstVertex ownWords _andThen_ addPart addRow countStep plain run among distinct filter alike? cofactors depends? parts size terminal? firstDifference valueAt

@@ -71,17 +71,17 @@ module _ {d e : Netlist} (h : Loadable d e) (old : List ℕ) where
       go : (x : Said) → ReplyKept d e (tableOf d e old) g (compared g) x
           → TrueLine d e (g .output) (lineFor (g .output) x (take (inputsOf (g .table)) (compared g .setting)))
       go (Said.refused n) k = absurd (k .1 (sym (k .0) ∙ r))
-      go (Said.equal rows steps) k = says-equal rows steps (k .1)
-      go (Said.different rows steps) k =
+      go (Said.equal rows steps added) k = says-equal rows steps (k .1)
+      go (Said.different rows steps added) k =
           let x = k .1 in
           let digits : length (settingBytes (x .setting)) ≡ inputsOf (g .table) =
           length-map (x .setting) _ ∙ x .digits ∙ sym (table-inputs d e h old) ∙ sym (s .inputs) in
           let front : settingBytes (x .setting) ≡ take (inputsOf (g .table)) (compared g .setting) =
           sym (rw (x .written) (take-at (settingBytes (x .setting)) _ (inputsOf (g .table)) digits)) in
           subst (λ (bytes : List ℕ). TrueLine d e (g .output) (replyLine edition (g .output) word.Different bytes None rows steps)) front (says-different rows steps x)
-      go (Said.size rows steps) k = says-undecided Size rows steps
-      go (Said.rows v rows steps) k = says-undecided (Rows v) rows steps
-      go (Said.steps v rows steps) k = says-undecided (Steps v) rows steps
+      go (Said.size rows steps added) k = says-undecided Size rows steps added
+      go (Said.rows v rows steps added) k = says-undecided (Rows v) rows steps added
+      go (Said.steps v rows steps added) k = says-undecided (Steps v) rows steps added
 
   -- So is that of each of the program's.
   lines-true : (n : ℕ) (g : Given) → Roomy g → g .output + n ≤ outputsOf (g .table) → Since (tableOf d e old) (g .table)

@@ -55,14 +55,15 @@ module _ {d e : Netlist} (h : Loadable d e) (old : List ℕ) (g : Given) (s : Si
         → ReplyKept d e (tableOf d e old) g (compared g) x
     unfolding problemOf
     said-kept (Said.refused n) m k = absurd k
-    said-kept (Said.equal rows steps) m k = (r, agree (k .0), k .1, k .2)
-    said-kept (Said.different rows steps) m k = (r, separated (k .0), k .1, k .2)
-    said-kept (Said.size rows steps) m k =
+    said-kept (Said.equal rows steps added) m k = (r, agree (k .0), k .1)
+    said-kept (Said.different rows steps added) m k = (r, separated (k .0), k .1)
+    said-kept (Said.size rows steps added) m k =
         let z = k .0 in
-        (r, too-large d e h old (g .limits .size) (z .vertex) (z .made) (z .there) (m .large (z .vertex) (z .there) (z .mark)), k .1, k .2)
-    said-kept (Said.rows v rows steps) m k = (r, too-many-parts d e h old (g .limits .rows) (isEither 1 3) (compared g .marks) (k .0), k .1)
-    said-kept (Said.steps v rows steps) m k =
-        (r, too-many-steps d e h old (g .limits .steps) (g .output) (g .limits) (λ m. isEither 1 2 m || is 3 m) _ (k .0), k .1, k .2)
+        (r, too-large d e h old (g .limits .size) (z .vertex) (z .made) (z .there) (m .large (z .vertex) (z .there) (z .mark)), k .1)
+    said-kept (Said.rows v rows steps added) m k =
+        (r, too-many-parts d e h old (g .limits .rows) (isEither 1 3) (compared g .marks) (k .0 .over), k .1, k .0 .full)
+    said-kept (Said.steps v rows steps added) m k =
+        (r, too-many-steps d e h old (g .limits .steps) (g .output) (g .limits) (λ m. isEither 1 2 m || is 3 m) _ (k .0 .over), k .1, k .0 .full)
 
   -- Refused or not.
   pub reply-kept : ReplyKept d e (tableOf d e old) g (compared g) (compared g .reply)

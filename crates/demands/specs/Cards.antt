@@ -44,10 +44,10 @@ firstCompared left right = compared (comparisonOf 0 usual (loadedTable left righ
 -- "`and 2 4` output 6 against `or 3 5` output 7: .. Equal, rows 0, steps 0." "output 2 against 3, one input: Different, setting 0, rows 0."
 -- "no inputs, 0 against 1: Different, empty setting." (RULES 13.2)
 pub record Replying : Type 0 where
-  pub and-or-reply : firstCompared andFile orFile .reply ≡ Said.equal 0 0
-  pub inverse-reply : firstCompared (outputFile 49 50) (outputFile 49 51) .reply ≡ Said.different 0 0
+  pub and-or-reply : firstCompared andFile orFile .reply ≡ Said.equal 0 0 0
+  pub inverse-reply : firstCompared (outputFile 49 50) (outputFile 49 51) .reply ≡ Said.different 0 0 0
   pub inverse-setting : firstCompared (outputFile 49 50) (outputFile 49 51) .setting ≡ 48 ∷ []
-  pub constants-reply : firstCompared (outputFile 48 48) (outputFile 48 49) .reply ≡ Said.different 0 0
+  pub constants-reply : firstCompared (outputFile 48 48) (outputFile 48 49) .reply ≡ Said.different 0 0 0
   pub constants-setting : firstCompared (outputFile 48 48) (outputFile 48 49) .setting ≡ []
 
 -- All of them.

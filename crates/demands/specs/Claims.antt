@@ -1,6 +1,6 @@
 -- What the rules claim of a comparison's reply, in terms of the files, the table as loaded, and what the comparison left. (RULES 12.3)
-use Prim.Native.Nat.{_<_, ℕ}
-use Rattle.compare_model.specs.Claims.{RowsKept, StepsKept}
+use Prim.Native.Nat.{_+_, _<_, ℕ}
+use Rattle.compare_model.specs.Claims.{CountsSettled, RowsKept}
 use Rattle.compare_model.specs.Compare.{Given, Left, refusalOf, settingBytes}
 use Rattle.compare_model.specs.Said.{Said}
 use Rattle.netlist_model.specs.Meaning.{fileAnds, fileValue}
@@ -51,21 +51,19 @@ TooManyParts d e limit = limit < together (inputsFrom (d .inputs) 1 (d .inputs) 
 abbrev pub TooManySteps : Netlist → Netlist → ℕ → Type 0
 TooManySteps d e limit = limit < sum (map andSteps (gatesAnds d e))
 
--- What is said of each reply: "unless it said Rows or Steps; after Steps they are the limit". A refusal is said exactly where one of 10 to 15
--- applies. (RULES 9.3, 12.3)
+-- What is said of each reply: "unless it said Rows or Steps; after Steps they are the limit", "after Rows, [the rows added] and the rows reported
+-- make the row limit". The steps after Rows are said by the marks (`ReplySays`). A refusal is said exactly where one of 10 to 15 applies.
+-- (RULES 7.11, 9.3, 12.3)
 abbrev pub ReplyKept : Netlist → Netlist → List ℕ → Given → Left → Said → Type 0
 ReplyKept d e loaded given left (Said.refused n) =
     (refusalOf given ≡ n) × (n ≢ 0) × (left .table ≡ given .table) × (left .marks ≡ given .marks) × (left .setting ≡ given .setting)
-ReplyKept d e loaded given left (Said.equal rows steps) =
-    (refusalOf given ≡ 0) × Agree d e (given .output) × RowsKept loaded given left rows × StepsKept loaded given left steps
-ReplyKept d e loaded given left (Said.different rows steps) =
-    (refusalOf given ≡ 0)
-    × Separated d e (given .output) (given .setting) (left .setting)
-    × RowsKept loaded given left rows
-    × StepsKept loaded given left steps
-ReplyKept d e loaded given left (Said.size rows steps) =
-    (refusalOf given ≡ 0) × TooLarge d e (given .limits .size) × RowsKept loaded given left rows × StepsKept loaded given left steps
-ReplyKept d e loaded given left (Said.rows v rows steps) =
-    (refusalOf given ≡ 0) × TooManyParts d e (given .limits .rows) × RowsKept loaded given left rows
-ReplyKept d e loaded given left (Said.steps v rows steps) =
+ReplyKept d e loaded given left (Said.equal rows steps added) =
+    (refusalOf given ≡ 0) × Agree d e (given .output) × CountsSettled loaded given left rows steps added
+ReplyKept d e loaded given left (Said.different rows steps added) =
+    (refusalOf given ≡ 0) × Separated d e (given .output) (given .setting) (left .setting) × CountsSettled loaded given left rows steps added
+ReplyKept d e loaded given left (Said.size rows steps added) =
+    (refusalOf given ≡ 0) × TooLarge d e (given .limits .size) × CountsSettled loaded given left rows steps added
+ReplyKept d e loaded given left (Said.rows v rows steps added) =
+    (refusalOf given ≡ 0) × TooManyParts d e (given .limits .rows) × RowsKept loaded given left rows × (rows + added ≡ given .limits .rows)
+ReplyKept d e loaded given left (Said.steps v rows steps added) =
     (refusalOf given ≡ 0) × TooManySteps d e (given .limits .steps) × RowsKept loaded given left rows × (steps ≡ given .limits .steps)

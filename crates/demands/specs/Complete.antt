@@ -20,8 +20,8 @@ pub record Suffice (d e : Netlist) (limits : Limits) : Type 0 where
 
 -- The reply is Equal where output k of the two files agrees on every setting, and Different where it does not. (RULES 12.2)
 pub data Decided (d e : Netlist) (k : ℕ) : Said → Type 0 where
-  is-equal : {rows steps : ℕ} → Agree d e k → Decided d e k (Said.equal rows steps)
-  is-different : {rows steps : ℕ} → (Agree d e k → ⊥) → Decided d e k (Said.different rows steps)
+  is-equal : {rows steps added : ℕ} → Agree d e k → Decided d e k (Said.equal rows steps added)
+  is-different : {rows steps added : ℕ} → (Agree d e k → ⊥) → Decided d e k (Said.different rows steps added)
 
 abbrev pub Complete : Type 0
 Complete =

@@ -62,7 +62,7 @@ pub record Example : Type 0 where
   pub ran : Ran after (firstCall ∷ secondCall ∷ thirdCall ∷ []) (thirdCall .left .table)
   pub suffice : Suffice (oneGate And) (oneGate Or) leastLimits
   pub first-accepted : refusalOf (firstCall .given) ≡ 0
-  pub first-reply : firstCall .left .reply ≡ Said.different 4 6
+  pub first-reply : firstCall .left .reply ≡ Said.different 4 6 0
   pub first-setting : firstCall .left .setting ≡ 48 ∷ 49 ∷ []
   pub second-reply : secondCall .left .reply ≡ Said.refused 12
-  pub third-reply : thirdCall .left .reply ≡ Said.size 2 6
+  pub third-reply : thirdCall .left .reply ≡ Said.size 2 6 0

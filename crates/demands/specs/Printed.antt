@@ -41,7 +41,7 @@ pub data TrueLine (d e : Netlist) (k : ℕ) : List ℕ → Type 0 where
   says-equal : (rows steps : ℕ) → Agree d e k → TrueLine d e k (replyLine edition k Equal [] None rows steps)
   says-different : (rows steps : ℕ) {before after : List ℕ} (s : Separated d e k before after)
       → TrueLine d e k (replyLine edition k Different (settingBytes (s .setting)) None rows steps)
-  says-undecided : (c : Cause) (rows steps : ℕ) → TrueLine d e k (lineFor k (undecidedBy c rows steps) [])
+  says-undecided : (c : Cause) (rows steps added : ℕ) → TrueLine d e k (lineFor k (undecidedBy c rows steps added) [])
 
 -- The bytes printed, and the comparisons of which they are the lines.
 pub record Printed (d e : Netlist) (loaded : List ℕ) (report : Report) : Type 0 where

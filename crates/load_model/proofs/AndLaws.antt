@@ -21,25 +21,15 @@ use Rattle.table.specs.Values.{Pair, vertexValues}
 use Rattle.truth.proofs.Booleans.{or-left, or-right}
 use Rattle.truth.proofs.Parts.{alike-sameness}
 use Rattle.truth.proofs.Together.{part-all}
+use Rattle.truth.proofs.Values.{conj-symmetric}
 use Rattle.truth.specs.Distinct.{among}
 use Rattle.truth.specs.Parts.{alike?, allParts, parts}
-use Rattle.truth.specs.Truth.{Truth, conj, constantly, invert, leaf, node}
+use Rattle.truth.specs.Truth.{Truth, conj, constantly, invert, leaf}
 use lib.ListN.{getD, length, length-map}
 use mathlib.Core.Bool.{false, true}
 use mathlib.Core.List.{List, [], _++_, _∷_, map}
 use mathlib.Core.Path.{_∙_, _≡_, ap, ap₂, refl, subst₂, sym}
 use native.Mathlib.Omega.{arith}
-
--- An AND is the same in either order.
-pub conj-symmetric : (f g : Truth) → conj f g ≡ conj g f
-unfolding conj
-conj-symmetric (leaf true) (leaf true) = refl
-conj-symmetric (leaf true) (leaf false) = refl
-conj-symmetric (leaf false) (leaf true) = refl
-conj-symmetric (leaf false) (leaf false) = refl
-conj-symmetric (leaf a) (node c d) = refl
-conj-symmetric (node a b) (leaf c) = refl
-conj-symmetric (node a b) (node c d) = ap₂ node (conj-symmetric a c) (conj-symmetric b d)
 
 getD-map : {A B : Type 0} (f : A → B) (xs : List A) (i : ℕ) (x : A) (z : B) → i < length xs → getD (map f xs) i z ≡ f (getD xs i x)
 getD-map f [] i x z h = absurd (omega arith)

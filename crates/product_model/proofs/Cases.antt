@@ -48,6 +48,15 @@ add-cases rowLimit f b = go (among alike? f (b .store)) refl (ltb (length (b .st
     go false e true i = new e (ltb-true (length (b .store)) rowLimit i)
     go false e false i = full e (ltb-false (length (b .store)) rowLimit i)
 
+-- Where it is short, the store is full.
+pub add-short : (rowLimit : ℕ) (f : Truth) (b : Book) {c : Book} → addPart rowLimit f b ≡ shortOfRows c → rowLimit ≤ length (b .store)
+add-short rowLimit f b {c} = go (add-cases rowLimit f b)
+  where
+    go : {o : Outcome} → Adding rowLimit f b o → o ≡ shortOfRows c → rowLimit ≤ length (b .store)
+    go (found i) e = impossible (cc)
+    go (new i j) e = impossible (cc)
+    go (full i j) e = j
+
 pub add-found : (rowLimit : ℕ) (f : Truth) (b : Book) → among alike? f (b .store) ≡ true → addPart rowLimit f b ≡ done b
 unfolding addPart
 add-found rowLimit f b e = rw e

@@ -9,3 +9,5 @@ pub mod Store
 pub mod Run
 pub mod Inputs
 pub mod Larger
+pub mod Symmetric
+pub mod SameRows

@@ -1,7 +1,7 @@
 -- What the endings say of the store: which rows it has, and how many.
-use Prim.Native.Nat.{_<_, ℕ}
+use Prim.Native.Nat.{_<_, _≤_, ℕ}
 use Rattle.product_model.proofs.Members.{within-append}
-use Rattle.product_model.proofs.Ran.{Done, ShortOfRows, grown-from, kept}
+use Rattle.product_model.proofs.Ran.{Done, Grown, ShortOfRows, grown-from, kept}
 use Rattle.product_model.specs.code.Books.{HoldsParts, Proper}
 use Rattle.product_model.specs.Run.{Book}
 use Rattle.truth.proofs.Booleans.{iff-equal}
@@ -10,10 +10,11 @@ use Rattle.truth.proofs.Parts.{alike-sameness}
 use Rattle.truth.specs.Distinct.{among, distinct}
 use Rattle.truth.specs.Parts.{alike?, allParts, parts, together}
 use Rattle.truth.specs.Truth.{Truth}
-use lib.ListN.{length}
+use lib.ListN.{length, length-append}
 use mathlib.Core.Bool.{_||_, or-comm}
 use mathlib.Core.List.{List, _++_, _∷_}
 use mathlib.Core.Path.{_∙_, _≡_, ap, sym}
+use native.Mathlib.Omega.{arith}
 
 holds-more : (f : Truth) {b : Book} {fs : List Truth} → HoldsParts b fs → (t : Truth) → among alike? t (parts f ++ b .store) ≡ among alike? t (allParts (f ∷ fs))
 unfolding allParts
@@ -34,6 +35,10 @@ module _ {rowLimit stepLimit : ℕ} where
   holds-rows {b} {fs} P H =
       sym (ap length (apart-distinct alike? alike-sameness (b .store) (P .no-repeats)))
       ∙ distinct-same alike? alike-sameness (b .store) (allParts fs) (H .members)
+
+  -- No row is lost.
+  pub grown-length : {ps : List Truth} {b c : Book} → Grown rowLimit stepLimit ps b c → length (b .store) ≤ length (c .store)
+  grown-length {b = b} G = rw (G .store) (omega (arith, length-append (G .added) (b .store)))
 
   -- Done: the rows are those of the start and the members of ps.
   done-all : {ps : List Truth} {n : ℕ} {b c : Book} → Done rowLimit stepLimit ps n b c

@@ -11,14 +11,14 @@ use mathlib.Core.List.{List, []}
 use mathlib.Core.Path.{_≡_, refl}
 
 -- It has the cause's word and vertex, and no setting.
-pub undecided-line : (output : ℕ) (x : Cause) (rows steps : ℕ) (setting : List ℕ)
-    → lineFor output (undecidedBy x rows steps) setting ≡ replyLine edition output (causeWord x) [] (causeVertex x) rows steps
-undecided-line output Size rows steps setting = refl
-undecided-line output (Rows v) rows steps setting = refl
-undecided-line output (Steps v) rows steps setting = refl
+pub undecided-line : (output : ℕ) (x : Cause) (rows steps added : ℕ) (setting : List ℕ)
+    → lineFor output (undecidedBy x rows steps added) setting ≡ replyLine edition output (causeWord x) [] (causeVertex x) rows steps
+undecided-line output Size rows steps added setting = refl
+undecided-line output (Rows v) rows steps added setting = refl
+undecided-line output (Steps v) rows steps added setting = refl
 
 -- It needs no room for a setting.
-pub undecided-room : (x : Cause) (rows steps : ℕ) (setting : List ℕ) → roomFor (undecidedBy x rows steps) setting ≡ LINE-ROOM
-undecided-room Size rows steps setting = refl
-undecided-room (Rows v) rows steps setting = refl
-undecided-room (Steps v) rows steps setting = refl
+pub undecided-room : (x : Cause) (rows steps added : ℕ) (setting : List ℕ) → roomFor (undecidedBy x rows steps added) setting ≡ LINE-ROOM
+undecided-room Size rows steps added setting = refl
+undecided-room (Rows v) rows steps added setting = refl
+undecided-room (Steps v) rows steps added setting = refl

@@ -11,21 +11,21 @@ use mathlib.Core.List.{List, []}
 -- "A Different writes one byte an input .. to the front of the lent setting slice": the other replies have no setting. (RULES 7.2)
 abbrev pub settingFor : Said → List ℕ → List ℕ
 settingFor (Said.refused n) setting = []
-settingFor (Said.equal rows steps) setting = []
-settingFor (Said.different rows steps) setting = setting
-settingFor (Said.size rows steps) setting = []
-settingFor (Said.rows v rows steps) setting = []
-settingFor (Said.steps v rows steps) setting = []
+settingFor (Said.equal rows steps added) setting = []
+settingFor (Said.different rows steps added) setting = setting
+settingFor (Said.size rows steps added) setting = []
+settingFor (Said.rows v rows steps added) setting = []
+settingFor (Said.steps v rows steps added) setting = []
 
 -- "then a line each": of a reply on an output, with its "reply word (equal, different, size, rows, steps)" and the "vertex named by
 -- Rows or Steps". A comparison that is refused has neither file nor line. (RULES 11.3, 11.4)
 abbrev pub lineFor : ℕ → Said → List ℕ → List ℕ
 lineFor output (Said.refused n) setting = refusedLine n 0 0
-lineFor output (Said.equal rows steps) setting = replyLine edition output word.Equal [] None rows steps
-lineFor output (Said.different rows steps) setting = replyLine edition output word.Different setting None rows steps
-lineFor output (Said.size rows steps) setting = replyLine edition output word.Size [] None rows steps
-lineFor output (Said.rows v rows steps) setting = replyLine edition output word.Rows [] (At v) rows steps
-lineFor output (Said.steps v rows steps) setting = replyLine edition output word.Steps [] (At v) rows steps
+lineFor output (Said.equal rows steps added) setting = replyLine edition output word.Equal [] None rows steps
+lineFor output (Said.different rows steps added) setting = replyLine edition output word.Different setting None rows steps
+lineFor output (Said.size rows steps added) setting = replyLine edition output word.Size [] None rows steps
+lineFor output (Said.rows v rows steps added) setting = replyLine edition output word.Rows [] (At v) rows steps
+lineFor output (Said.steps v rows steps added) setting = replyLine edition output word.Steps [] (At v) rows steps
 
 -- The bytes that the line is sure to fit in.
 abbrev pub roomFor : Said → List ℕ → ℕ

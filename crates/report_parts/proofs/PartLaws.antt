@@ -15,11 +15,11 @@ use native.Mathlib.Omega.{arith}
 -- A line has no more of a setting than there is.
 setting-short : (said : Said) (setting : List ℕ) → length (settingFor said setting) ≤ length setting
 setting-short (Said.refused n) setting = omega arith
-setting-short (Said.equal rows steps) setting = omega arith
-setting-short (Said.different rows steps) setting = omega arith
-setting-short (Said.size rows steps) setting = omega arith
-setting-short (Said.rows v rows steps) setting = omega arith
-setting-short (Said.steps v rows steps) setting = omega arith
+setting-short (Said.equal rows steps added) setting = omega arith
+setting-short (Said.different rows steps added) setting = omega arith
+setting-short (Said.size rows steps added) setting = omega arith
+setting-short (Said.rows v rows steps added) setting = omega arith
+setting-short (Said.steps v rows steps added) setting = omega arith
 
 -- So the line of every reply fits.
 pub room-short : (said : Said) (setting : List ℕ) → roomFor said setting ≤ LINE-ROOM + length setting

@@ -73,7 +73,7 @@ fn run_card(
     io::write_all(STDOUT_FILENO, b":");
     let is_loaded = load_card(card, table, pairs, look, diagrams, stages);
     let is_compared = compare_card(card, table, pairs, look, diagrams, stages, rows);
-    let is_left = say(is_words(table, field(card, 10)), b" table");
+    let is_left = say(is_words(table, field(card, 11)), b" table");
     if is_loaded && is_compared && is_left {
         io::write_all(STDOUT_FILENO, b" ok\n");
         return 1;
@@ -126,7 +126,7 @@ fn fill(table: &mut [u32; load::MAX_TABLE]) {
     }
 }
 
-// Compares as the card asks, and judges reply, setting and marks.
+// Compares as the card asks, and judges the reply with its rows added, the setting and the marks.
 fn compare_card(
     card: &[u8],
     table: &mut [u32; load::MAX_TABLE],
@@ -152,9 +152,10 @@ fn compare_card(
         &mut setting,
     );
     let is_reply = say(is_line(field(card, 7), output, reply), b" reply");
-    let is_setting = say(starts_with(&setting, field(card, 8), 0), b" setting");
-    let is_marks = say(starts_with(&marks, field(card, 9), b'0'), b" marks");
-    is_reply && is_setting && is_marks
+    let is_added = say(has_added(reply, number(field(card, 8))), b" added");
+    let is_setting = say(starts_with(&setting, field(card, 9), 0), b" setting");
+    let is_marks = say(starts_with(&marks, field(card, 10), b'0'), b" marks");
+    is_reply && is_added && is_setting && is_marks
 }
 
 fn limits_of(card: &[u8]) -> Limits {
@@ -170,6 +171,16 @@ fn is_line(line: &[u8], output: u32, reply: Reply) -> bool {
     let mut came = [0u8; report_format::LINE_ROOM];
     let end = reply_line::write_line(&mut came, output, reply, b"");
     text::same(line, &came[..end])
+}
+
+// Whether the reply carries these rows added; a refusal carries none.
+fn has_added(reply: Reply, added: u32) -> bool {
+    match reply {
+        Reply::Equal(counts) => counts.added == added,
+        Reply::Different(counts) => counts.added == added,
+        Reply::Undecided(_, counts) => counts.added == added,
+        Reply::Refused(_) => false,
+    }
 }
 
 // Whether `s` starts with the bytes of `front`, each less `zero`.

@@ -73,11 +73,11 @@ fn judge(
     tally::hold(tally, settings::holds(setting, difference, written));
     match reply {
         Reply::Equal(counts) => {
-            let is_right = difference == tables::SETTINGS;
+            let is_right = difference == tables::SETTINGS && counts.added == 0;
             count_reply(tally::EQUAL, is_right, counts, asked, tally);
         }
         Reply::Different(counts) => {
-            let is_right = difference < tables::SETTINGS;
+            let is_right = difference < tables::SETTINGS && counts.added == 0;
             count_reply(tally::DIFFERENT, is_right, counts, asked, tally);
         }
         Reply::Undecided(cause, counts) => {
@@ -148,7 +148,8 @@ fn kind_of(cause: Cause) -> usize {
     }
 }
 
-// Size: some vertex is marked 2. Rows and Steps: the vertex named is marked 3, and after Steps the limit is used up.
+// Size: some vertex is marked 2, and no rows are added. Rows and Steps: the vertex named is marked 3, and the limit is used up, after Rows by the
+// rows added too.
 fn is_cause(
     cause: Cause,
     counts: Counts,
@@ -157,8 +158,11 @@ fn is_cause(
     marks: &[u8; VERTICES],
 ) -> bool {
     match cause {
-        Cause::Size => has_dropped(marks, vertices),
-        Cause::Rows(vertex) => mark_of(marks, vertex) == 3,
+        Cause::Size => counts.added == 0 && has_dropped(marks, vertices),
+        Cause::Rows(vertex) => {
+            let is_used = counts.rows as u64 + counts.added as u64 == asked.rows as u64;
+            is_used && mark_of(marks, vertex) == 3
+        }
         Cause::Steps(vertex) => {
             let is_used = counts.steps as u64 == asked.steps;
             is_used && mark_of(marks, vertex) == 3

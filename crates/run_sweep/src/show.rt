@@ -18,19 +18,21 @@ ghost use mathlib.Core.Path.{_≡_};
 
 const LINE_ROOM: usize = report_format::LINE_ROOM + MAX_INPUTS;
 
-// The reply's line without its end.
+// The reply's line without its end, a tab, and the rows added.
 pub fn show_reply(list: u32, ended: Ended, rows: &[u32], task: Task)
     requires store { ⌜ Store (now rows) (task .rows) (ended .used) ⌝ }
     requires references { ⌜ Refers (now rows) (ended .used) (task .inputs) (ended .end) ⌝ }
-    requires counted { ⌜ ended .steps < 2 ^ 32 ⌝ }
+    requires counted { ⌜ (ended .steps < 2 ^ 32) × (ended .added < 2 ^ 32) ⌝ }
     requires narrow { ⌜ task .inputs ≤ INPUTS ⌝ }
 {
     let counts = Counts {
         rows: ended.used as u32,
         steps: ended.steps as u32,
+        added: ended.added as u32,
     };
     let end = ended.end;
     show_end(list, end, counts, rows, ended.used, task);
+    show_number(b"\t", counts.added);
 }
 
 // A Different has the first setting on which the two functions differ; where these are inverse, all inputs are 0.

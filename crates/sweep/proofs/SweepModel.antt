@@ -18,20 +18,20 @@ use Rattle.sweep.specs.code.Sweep.{Rests, Sweeps}
 use mathlib.Core.List.{List}
 use mathlib.Core.Path.{_∙_, _≡_, ap, subst}
 
--- An end with the rows used and the steps taken.
-abbrev pub endedWith : End → ℕ → ℕ → result.Ended
-endedWith e used steps = record { end = e; used = used; steps = steps }
+-- An end with the rows used, the steps taken and the rows added.
+abbrev pub endedWith : End → ℕ → ℕ → ℕ → result.Ended
+endedWith e used steps added = record { end = e; used = used; steps = steps; added = added }
 
 module _ (t : Task) (used steps : ℕ) (b after : Workspace) {g : Going} (goes : Goes t used steps b after g) where
   -- None waits: undecided, by Size.
-  pub rest-answers : {more taken : ℕ} → g ≡ On more taken → Rests t used steps b after (endedWith (Undecided Size) more taken)
+  pub rest-answers : {more taken : ℕ} → g ≡ On more taken → Rests t used steps b after (endedWith (Undecided Size) more taken 0)
   unfolding resultOf verdictOf
   rest-answers h = λ x o.
       let r = subst (Goes t used steps b after) h goes x o in
       record { answer = ap resultOf (r .reached); closed = represents-closed (r .represents) tt }
 
   -- A turn ended the sweep.
-  pub turn-answers : {more taken : ℕ} {e : End} → g ≡ Ended e more taken → Rests t used steps b after (endedWith e more taken)
+  pub turn-answers : {more taken added : ℕ} {e : End} → g ≡ Ended e more taken added → Rests t used steps b after (endedWith e more taken added)
   unfolding resultOf
   turn-answers h = λ x o.
       let r = subst (Goes t used steps b after) h goes x o in
@@ -59,7 +59,7 @@ module _ (t : Task) (b middle : Workspace) {g : Going} (starts : Starts t b midd
         }
 
   -- The start ended the sweep.
-  pub start-answers : {used steps : ℕ} {e : End} → g ≡ Ended e used steps → Sweeps t b middle (endedWith e used steps)
+  pub start-answers : {used steps added : ℕ} {e : End} → g ≡ Ended e used steps added → Sweeps t b middle (endedWith e used steps added)
   unfolding andThen resultOf sweep
   start-answers h = λ functions poses.
       let s = subst (Starts t b middle) h starts functions poses in

@@ -46,8 +46,19 @@ fn finish(
             end: End::Undecided(Cause::Size),
             used,
             steps,
+            added: 0,
         },
-        Going::Ended { end, used, steps } => Ended { end, used, steps },
+        Going::Ended {
+            end,
+            used,
+            steps,
+            added,
+        } => Ended {
+            end,
+            used,
+            steps,
+            added,
+        },
     }
 }
 
@@ -77,6 +88,16 @@ pub fn sweep(
             used,
             steps,
         ),
-        Going::Ended { end, used, steps } => Ended { end, used, steps },
+        Going::Ended {
+            end,
+            used,
+            steps,
+            added,
+        } => Ended {
+            end,
+            used,
+            steps,
+            added,
+        },
     }
 }

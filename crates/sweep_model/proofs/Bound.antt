@@ -25,14 +25,14 @@ open-turns s v w =
     )
 
 -- What is known of a state where the sweep goes on.
-pub claim-on : {P : State → Type 0} {W : Verdict → State → Type 0} {o : Progress} {s : State} → Claim P W o → o ≡ on s → P s
+pub claim-on : {P : State → Type 0} {W : Verdict → ℕ → State → Type 0} {o : Progress} {s : State} → Claim P W o → o ≡ on s → P s
 claim-on {P} {W} {o} {s} c e = at-on (rw e at c)
   where
     at-on : Claim P W (on s) → P s
     at-on (goes-on h) = h
 
 -- Nothing is asked of the states or claimed of the end.
-pub nothing : (p : Problem) (entry : List ℕ) → Keeps p entry (λ place s. Unit {0}) (λ x s. Unit {0})
+pub nothing : (p : Problem) (entry : List ℕ) → Keeps p entry (λ place s. Unit {0}) (λ x k s. Unit {0})
 nothing p entry = unclaimed unasked
 
 -- Where none waits the turns end.
@@ -48,7 +48,7 @@ go-turns p n s v e = rw (e, goFor)
 
 -- What follows where the sweep goes on.
 then-same :
-    {P : State → Type 0} {W : Verdict → State → Type 0} {o : Progress} {next other : State → Progress} → Claim P W o
+    {P : State → Type 0} {W : Verdict → ℕ → State → Type 0} {o : Progress} {next other : State → Progress} → Claim P W o
     → ((s : State) → P s → next s ≡ other s) → andThen o next ≡ andThen o other
 unfolding andThen
 then-same (goes-on {s = s} h) k = k s h

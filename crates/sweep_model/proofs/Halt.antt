@@ -9,8 +9,8 @@ use Rattle.sweep_model.specs.declared.Cause.the-variants.{Size}
 use mathlib.Core.List.{List}
 use mathlib.Core.Path.{_≡_}
 
-module _ {p : Problem} {entry : List ℕ} (fit : Fit p entry) {R : Place → State → Type 0} {W : Verdict → State → Type 0} (K : Keeps p entry R W) where
-  quiet-keeps : Keeps p entry R (λ x s. x ≡ undecided Size → Quiet fit K s)
+module _ {p : Problem} {entry : List ℕ} (fit : Fit p entry) {R : Place → State → Type 0} {W : Verdict → ℕ → State → Type 0} (K : Keeps p entry R W) where
+  quiet-keeps : Keeps p entry R (λ x k s. x ≡ undecided Size → Quiet fit K s)
   quiet-keeps =
       record {
         invariant = K .invariant;

@@ -10,7 +10,7 @@ use Rattle.sweep_model.specs.Fit.{Fit, vertexCount}
 use Rattle.sweep_model.specs.Normalise.{normalise}
 use Rattle.sweep_model.specs.State.{Problem, State, bare?, functionOf, gone?, literalFunction, open?, stageOf, withBook, withMark}
 use Rattle.sweep_model.specs.code.Steady.{Due, Giving, Scanning, Steady, Unsettled, haveNow?, leftNow, productOf, rightNow}
-use Rattle.sweep_model.specs.Sweep.{Candidate, Progress, Verdict, andThen, at, begin, conclude, different, dropVertex, ends, equal, giveInputs, giveRow, givenBack, go, goFor, look, lookAt, meet, multiply, none, on, openAt, pickFrom, ready?, resultOf, scanFrom, start, sweep, swept, topPart, turnsLeft, twinFrom, undecided, visit}
+use Rattle.sweep_model.specs.Sweep.{Candidate, Progress, Verdict, addedTo, andThen, at, begin, conclude, different, dropVertex, ends, equal, giveInputs, giveRow, givenBack, go, goFor, look, lookAt, meet, multiply, none, on, openAt, pickFrom, ready?, resultOf, scanFrom, start, sweep, swept, topPart, turnsLeft, twinFrom, undecided, visit}
 use Rattle.sweep_model.specs.declared.Cause.the-variants.{Rows, Size, Steps}
 use Rattle.truth.proofs.Booleans.{and-left, and-right}
 use Rattle.truth.specs.Distinct.{among}
@@ -53,28 +53,28 @@ pub record Invariant (p : Problem) (entry : List ℕ) (R : Place → State → T
   pub merges : (n v w : ℕ) (b : Book) (s : State) → Due p entry n v s → productOf p v s ≡ done b → ltb (p .limits .size) (size (functionOf p v)) ≡ false
       → twinFrom p (s .stages) v 0 (length (s .stages)) ≡ at w → R (scanning n v) s → R (scanning n (suc v)) (meet p v (withBook b s) (at w))
 
--- And so that W holds of the verdict and the state at the end.
-pub record Keeps (p : Problem) (entry : List ℕ) (R : Place → State → Type 0) (W : Verdict → State → Type 0) : Type 0 where
+-- And so that W holds of the verdict, the rows added and the state at the end.
+pub record Keeps (p : Problem) (entry : List ℕ) (R : Place → State → Type 0) (W : Verdict → ℕ → State → Type 0) : Type 0 where
   pub invariant : Invariant p entry R
   -- The two literals are one, or inverse; or both have diagrams, of equal functions or not.
-  pub same-literal : (place : Place) (s : State) → Steady p entry s → R place s → leftNow p s ≡ rightNow p s → W equal s
+  pub same-literal : (place : Place) (s : State) → Steady p entry s → R place s → leftNow p s ≡ rightNow p s → W equal 0 s
   pub inverse-literal : (place : Place) (s : State) → Steady p entry s → R place s → leftNow p s ≡ negate (rightNow p s)
-      → W (different (replicate (p .inputs) false)) s
+      → W (different (replicate (p .inputs) false)) 0 s
   pub same-function : (place : Place) (s : State) → Steady p entry s → R place s → leftNow p s ≢ rightNow p s → leftNow p s ≢ negate (rightNow p s)
-      → haveNow? p s ≡ true → same? (literalFunction p (leftNow p s)) (literalFunction p (rightNow p s)) ≡ true → W equal s
+      → haveNow? p s ≡ true → same? (literalFunction p (leftNow p s)) (literalFunction p (rightNow p s)) ≡ true → W equal 0 s
   pub other-function : (place : Place) (s : State) → Steady p entry s → R place s → leftNow p s ≢ rightNow p s → leftNow p s ≢ negate (rightNow p s)
       → haveNow? p s ≡ true → same? (literalFunction p (leftNow p s)) (literalFunction p (rightNow p s)) ≡ false
-      → W (different (firstDifference (literalFunction p (leftNow p s)) (literalFunction p (rightNow p s)))) s
+      → W (different (firstDifference (literalFunction p (leftNow p s)) (literalFunction p (rightNow p s)))) 0 s
   -- The row limit is passed at an input; a product is short of rows or steps.
   pub lacks-input-row : (v : ℕ) (b : Book) (s : State) → Steady p entry s → Giving p v s → 1 ≤ v → v < p .first → inputRow p v s ≡ shortOfRows b
-      → R (giving v) s → W (undecided (Rows v)) (withMark v 3 s)
+      → R (giving v) s → W (undecided (Rows v)) 0 (withMark v 3 s)
   pub lacks-row : (n v : ℕ) (b : Book) (s : State) → Due p entry n v s → productOf p v s ≡ shortOfRows b → R (scanning n v) s
-      → W (undecided (Rows v)) (withMark v 3 (withBook (givenBack (s .book) b) s))
+      → W (undecided (Rows v)) (addedTo (s .book) b) (withMark v 3 (withBook (givenBack (s .book) b) s))
   pub lacks-step : (n v : ℕ) (b : Book) (s : State) → Due p entry n v s → productOf p v s ≡ shortOfSteps b → R (scanning n v) s
-      → W (undecided (Steps v)) (withMark v 3 (withBook (givenBack (s .book) b) s))
+      → W (undecided (Steps v)) (addedTo (s .book) b) (withMark v 3 (withBook (givenBack (s .book) b) s))
   -- None waits.
   pub rests : (n : ℕ) (s : State) → Steady p entry s → Scanning p n (vertexCount p) s → pickFrom p 0 (s .stages) ≡ none → R (scanning n (vertexCount p)) s
-      → W (undecided Size) s
+      → W (undecided Size) 0 s
 
 -- Nothing is asked of the states.
 pub unasked : {p : Problem} {entry : List ℕ} → Invariant p entry (λ place s. Unit {0})
@@ -91,7 +91,7 @@ unasked =
     }
 
 -- Nothing is claimed of the end.
-pub unclaimed : {p : Problem} {entry : List ℕ} {R : Place → State → Type 0} → Invariant p entry R → Keeps p entry R (λ x s. Unit {0})
+pub unclaimed : {p : Problem} {entry : List ℕ} {R : Place → State → Type 0} → Invariant p entry R → Keeps p entry R (λ x k s. Unit {0})
 unclaimed I =
     record {
       invariant = I;
@@ -105,20 +105,20 @@ unclaimed I =
       rests = λ n s h c e r. tt;
     }
 
--- What has to be shown so that W holds of the verdict and the state at the end, where nothing but steadiness is asked of the states before.
-pub record Endings (p : Problem) (entry : List ℕ) (W : Verdict → State → Type 0) : Type 0 where
-  pub same-literal : (s : State) → Steady p entry s → leftNow p s ≡ rightNow p s → W equal s
-  pub inverse-literal : (s : State) → Steady p entry s → leftNow p s ≡ negate (rightNow p s) → W (different (replicate (p .inputs) false)) s
-  pub same-function : (s : State) → Steady p entry s → same? (literalFunction p (leftNow p s)) (literalFunction p (rightNow p s)) ≡ true → W equal s
+-- What has to be shown so that W holds of the verdict, the rows added and the state at the end, where nothing but steadiness is asked of the states before.
+pub record Endings (p : Problem) (entry : List ℕ) (W : Verdict → ℕ → State → Type 0) : Type 0 where
+  pub same-literal : (s : State) → Steady p entry s → leftNow p s ≡ rightNow p s → W equal 0 s
+  pub inverse-literal : (s : State) → Steady p entry s → leftNow p s ≡ negate (rightNow p s) → W (different (replicate (p .inputs) false)) 0 s
+  pub same-function : (s : State) → Steady p entry s → same? (literalFunction p (leftNow p s)) (literalFunction p (rightNow p s)) ≡ true → W equal 0 s
   pub other-function : (s : State) → Steady p entry s → same? (literalFunction p (leftNow p s)) (literalFunction p (rightNow p s)) ≡ false
-      → W (different (firstDifference (literalFunction p (leftNow p s)) (literalFunction p (rightNow p s)))) s
-  pub lacks-input-row : (v : ℕ) (s : State) → Steady p entry s → W (undecided (Rows v)) (withMark v 3 s)
-  pub lacks-row : (v : ℕ) (b : Book) (s : State) → Steady p entry s → W (undecided (Rows v)) (withMark v 3 (withBook (givenBack (s .book) b) s))
-  pub lacks-step : (v : ℕ) (b : Book) (s : State) → Steady p entry s → W (undecided (Steps v)) (withMark v 3 (withBook (givenBack (s .book) b) s))
-  pub rests : (s : State) → Steady p entry s → W (undecided Size) s
+      → W (different (firstDifference (literalFunction p (leftNow p s)) (literalFunction p (rightNow p s)))) 0 s
+  pub lacks-input-row : (v : ℕ) (s : State) → Steady p entry s → W (undecided (Rows v)) 0 (withMark v 3 s)
+  pub lacks-row : (v : ℕ) (b : Book) (s : State) → Steady p entry s → W (undecided (Rows v)) (addedTo (s .book) b) (withMark v 3 (withBook (givenBack (s .book) b) s))
+  pub lacks-step : (v : ℕ) (b : Book) (s : State) → Steady p entry s → W (undecided (Steps v)) (addedTo (s .book) b) (withMark v 3 (withBook (givenBack (s .book) b) s))
+  pub rests : (s : State) → Steady p entry s → W (undecided Size) 0 s
 
 -- Such endings are one way to keep: nothing is asked of the states before.
-pub endings-keep : {p : Problem} {entry : List ℕ} {W : Verdict → State → Type 0} → Endings p entry W → Keeps p entry (λ place s. Unit {0}) W
+pub endings-keep : {p : Problem} {entry : List ℕ} {W : Verdict → ℕ → State → Type 0} → Endings p entry W → Keeps p entry (λ place s. Unit {0}) W
 endings-keep E =
     record {
       invariant = unasked;
@@ -132,21 +132,21 @@ endings-keep E =
       rests = λ n s h c e r. E .rests s h;
     }
 
--- What is known of a state where the sweep goes on, and of a verdict and a state where it ends.
-pub data Claim (P : State → Type 0) (W : Verdict → State → Type 0) : Progress → Type 0 where
+-- What is known of a state where the sweep goes on, and of a verdict, the rows added and a state where it ends.
+pub data Claim (P : State → Type 0) (W : Verdict → ℕ → State → Type 0) : Progress → Type 0 where
   goes-on : {s : State} → P s → Claim P W (on s)
-  stops : {x : Verdict} {s : State} → W x s → Claim P W (ends x s)
+  stops : {x : Verdict} {k : ℕ} {s : State} → W x k s → Claim P W (ends x k s)
 
 -- What is known after two parts, one after the other.
 pub then-claim :
-    {P P′ : State → Type 0} {W : Verdict → State → Type 0} {o : Progress} {next : State → Progress} → Claim P W o
+    {P P′ : State → Type 0} {W : Verdict → ℕ → State → Type 0} {o : Progress} {next : State → Progress} → Claim P W o
     → ((s : State) → P s → Claim P′ W (next s)) → Claim P′ W (andThen o next)
 unfolding andThen
 then-claim (goes-on {s = s} h) k = k s h
 then-claim (stops h) k = stops h
 
 test-claim :
-    {P : State → Type 0} {W : Verdict → State → Type 0} (b : Bool) {x y : Progress} → (b ≡ true → Claim P W x) → (b ≡ false → Claim P W y)
+    {P : State → Type 0} {W : Verdict → ℕ → State → Type 0} (b : Bool) {x y : Progress} → (b ≡ true → Claim P W x) → (b ≡ false → Claim P W y)
     → Claim P W (cond b x y)
 test-claim true h k = h refl
 test-claim false h k = k refl
@@ -165,7 +165,7 @@ input-steps p v s b e =
     never false true more k = let z : _≡_ {A = ℕ} 0 1 = cc in omega arith
     never false false more k = let z : _≡_ {A = ℕ} 0 1 = cc in omega arith
 
-module _ {p : Problem} {entry : List ℕ} (fit : Fit p entry) {R : Place → State → Type 0} {W : Verdict → State → Type 0} (K : Keeps p entry R W) where
+module _ {p : Problem} {entry : List ℕ} (fit : Fit p entry) {R : Place → State → Type 0} {W : Verdict → ℕ → State → Type 0} (K : Keeps p entry R W) where
   -- The scan has come to vertex k with at most n turns left.
   pub record Reached (n k : ℕ) (s : State) : Type 0 where
     pub steady : Steady p entry s
@@ -331,10 +331,10 @@ module _ {p : Problem} {entry : List ℕ} (fit : Fit p entry) {R : Place → Sta
       })
 
   -- What each step keeps holds of the answer.
-  pub sweep-keeps : W (sweep p entry .verdict) (sweep p entry .left)
+  pub sweep-keeps : W (sweep p entry .verdict) (sweep p entry .added) (sweep p entry .left)
   unfolding sweep go
   sweep-keeps = last (andThen (start p entry) (go p)) (then-claim start-claim (λ s c. go-claim (turnsLeft (s .stages)) s c))
     where
-      last : (o : Progress) → Claim Quiet W o → W (resultOf o .verdict) (resultOf o .left)
+      last : (o : Progress) → Claim Quiet W o → W (resultOf o .verdict) (resultOf o .added) (resultOf o .left)
       last (on s) (goes-on q) = unfold resultOf in K .rests (q .turns) s (q .reached .steady) (q .reached .scanned) (q .none-waits) (q .reached .kept)
-      last (ends x s) (stops h) = unfold resultOf in h
+      last (ends x k s) (stops h) = unfold resultOf in h

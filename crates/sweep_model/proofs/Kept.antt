@@ -3,6 +3,8 @@ use Prim.Native.Nat.{_*_, _<_, _≤_, ℕ}
 use Rattle.aig.proofs.PairsLaws.{pair-map, pair-then, same-pair-value}
 use Rattle.aig.specs.Lookup.{firstWord, secondWord}
 use Rattle.aig.specs.Pairs.{SamePair, straight}
+use Rattle.product_model.proofs.Symmetric.{run-symmetric}
+use Rattle.product_model.specs.Run.{Book, run}
 use Rattle.sweep_model.proofs.Induction.{Endings, endings-keep, sweep-keeps}
 use Rattle.sweep_model.proofs.Rows.{resolve-function}
 use Rattle.sweep_model.proofs.Steady.{mark-steady}
@@ -22,6 +24,12 @@ use native.Mathlib.Omega.{arith}
 -- Operands of the same functions, in either order, take the same steps.
 pub pair-steps : {f g f′ g′ : Truth} → SamePair f g f′ g′ → steps f g ≡ steps f′ g′
 pair-steps s = same-pair-value steps steps-symmetric s
+
+-- Their products are one run.
+pub pair-runs : (rowLimit stepLimit : ℕ) (b : Book) {f g f′ g′ : Truth} → SamePair f g f′ g′
+    → run rowLimit stepLimit f g b ≡ run rowLimit stepLimit f′ g′ b
+pair-runs rowLimit stepLimit b s =
+    same-pair-value (λ (f g : Truth). run rowLimit stepLimit f g b) (λ (f g : Truth). run-symmetric rowLimit stepLimit f g b) s
 
 module _ {p : Problem} {entry : List ℕ} (fit : Fit p entry) where
   module _ {s : State} (h : Steady p entry s) (v : ℕ) (made : p .first ≤ v) (within : v < vertexCount p) (unmerged : merged? (s .rows) v ≡ false) where
@@ -43,7 +51,7 @@ module _ {p : Problem} {entry : List ℕ} (fit : Fit p entry) where
         ≡ steps (literalFunction p (firstWord entry v)) (literalFunction p (secondWord entry v))
     steps-kept = pair-steps operands-kept
 
-  steady-ends : Endings p entry (λ x s. Steady p entry s)
+  steady-ends : Endings p entry (λ x k s. Steady p entry s)
   steady-ends =
       record {
         same-literal = λ s h e. h;

@@ -26,6 +26,7 @@ pub mod Halt
 pub mod Starving
 pub mod SomeDropped
 pub mod ReplyLaws
+pub mod Determined
 pub mod Sources
 pub mod AfterRest
 pub mod Decides

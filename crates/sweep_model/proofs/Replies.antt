@@ -1,27 +1,28 @@
 -- Rows, steps and marks after every reply.
 use Prim.Native.Nat.{_+_, _<_, _≤_, ℕ}
-use Rattle.product_model.proofs.Cases.{impossible}
-use Rattle.product_model.proofs.Ran.{ShortOfRows, ShortOfSteps, is-short-of-rows, is-short-of-steps}
-use Rattle.product_model.proofs.Store.{rows-together}
+use Rattle.product_model.proofs.Cases.{add-short, impossible}
+use Rattle.product_model.proofs.Ran.{Grown, ShortOfRows, ShortOfSteps, is-short-of-rows, is-short-of-steps}
+use Rattle.product_model.proofs.Store.{grown-length, rows-together}
 use Rattle.product_model.specs.code.Books.{HoldsParts, Proper, Stored}
-use Rattle.product_model.specs.Run.{Book, shortOfRows, shortOfSteps}
+use Rattle.product_model.specs.Run.{Book, Outcome, shortOfRows, shortOfSteps}
 use Rattle.sweep_model.proofs.Accounts.{fits-now, holds-now}
 use Rattle.sweep_model.proofs.Choices.{pick-waits}
 use Rattle.sweep_model.proofs.Induction.{Keeps}
 use Rattle.sweep_model.proofs.Inputs.{input-row-ran}
-use Rattle.sweep_model.proofs.Marked.{andAt, ands-put, marked-among, marked-put, marked-same, sum-inserted, together-inserted}
-use Rattle.sweep_model.proofs.Products.{product-ran}
+use Rattle.sweep_model.proofs.Kept.{operands-kept, pair-runs}
+use Rattle.sweep_model.proofs.Marked.{andAt, ands-put, ands-stay, marked-among, marked-none, marked-put, marked-same, sum-inserted, together-inserted}
+use Rattle.sweep_model.proofs.Products.{due-unmerged, product-ran}
 use Rattle.sweep_model.proofs.Reachable.{begin-reachable, dropped-reachable, due-entry, due-inputs, due-nonzero, due-unmarked, input-reachable, merged-reachable, opened-reachable, product-reachable}
 use Rattle.sweep_model.proofs.Stages.{bare-lacks}
 use Rattle.sweep_model.proofs.Steady.{due-within, inputRow}
 use Rattle.sweep_model.proofs.Tidy.{first-unmerged}
-use Rattle.sweep_model.specs.Claims.{And, Names, andSteps, andsOf, by-rows, by-steps, is, isEither, marked, rowsMarkedWithLast, stepsMarked, stepsMarkedWithLast, sum}
+use Rattle.sweep_model.specs.Claims.{AfterRows, AfterSteps, And, BrokeOff, Names, andSteps, andsOf, at-and, at-input, by-rows, by-steps, is, isEither, marked, rowsMarkedWithLast, stepsMarked, stepsMarkedWithLast, sum}
 use Rattle.sweep_model.specs.Fit.{Fit, vertexCount}
 use Rattle.sweep_model.specs.Normalise.{wasMerged?}
 use Rattle.sweep_model.specs.code.Reachable.{Accounted, AllStored, Apart, InputsMarked, MarkFits, Reachable, StageFits}
 use Rattle.sweep_model.specs.State.{Problem, Stage, State, bare?, functionOf, has?, stageOf, withBook, withMark}
 use Rattle.sweep_model.specs.code.Steady.{Due, Giving, Scanning, productOf}
-use Rattle.sweep_model.specs.Sweep.{Verdict, different, equal, givenBack, undecided}
+use Rattle.sweep_model.specs.Sweep.{Verdict, addedTo, different, equal, givenBack, topPart, undecided}
 use Rattle.sweep_model.specs.declared.Cause.the-variants.{Rows, Size, Steps}
 use Rattle.sweep_model.specs.declared.Cause.{Cause}
 use Rattle.truth.proofs.Booleans.{clash}
@@ -40,17 +41,17 @@ use mathlib.Core.Path.{_∙_, _≡_, ap, refl, sym}
 use native.Mathlib.Decide.{decLt, ℕ-discrete}
 use native.Mathlib.Omega.{arith}
 
--- What a verdict says of rows and steps: the steps of the ANDs marked 1 or 2; or a limit that was passed.
-pub data Spent (p : Problem) (entry marks : List ℕ) (book : Book) : Verdict → Type 0 where
-  in-full : {x : Verdict} → ((v : ℕ) → Names x v → ⊥) → book .steps ≡ stepsMarked p entry marks → Spent p entry marks book x
-  no-row : {v : ℕ} → p .limits .rows < rowsMarkedWithLast p marks → Spent p entry marks book (undecided (Rows v))
-  no-step : {v : ℕ} → book .steps ≡ p .limits .steps → p .limits .steps < stepsMarkedWithLast p entry marks → Spent p entry marks book (undecided (Steps v))
+-- What a verdict says of rows, steps and rows added: the steps of the ANDs marked 1 or 2, and none added; or what is said after Rows or Steps.
+pub data Spent (p : Problem) (entry marks : List ℕ) (book : Book) (added : ℕ) : Verdict → Type 0 where
+  in-full : {x : Verdict} → ((v : ℕ) → Names x v → ⊥) → book .steps ≡ stepsMarked p entry marks → added ≡ 0 → Spent p entry marks book added x
+  no-row : {v : ℕ} → AfterRows p entry marks v (length (book .store)) (book .steps) added → Spent p entry marks book added (undecided (Rows v))
+  no-step : {v : ℕ} → AfterSteps p entry marks v (length (book .store)) (book .steps) added → Spent p entry marks book added (undecided (Steps v))
 
--- What holds of a verdict and of the state that it leaves.
-pub record Ended (p : Problem) (entry : List ℕ) (x : Verdict) (s : State) : Type 0 where
+-- What holds of a verdict, of the rows added and of the state that is left.
+pub record Ended (p : Problem) (entry : List ℕ) (x : Verdict) (added : ℕ) (s : State) : Type 0 where
   pub proper : Proper (p .limits .rows) (p .limits .steps) (s .book)
   pub holds : HoldsParts (s .book) (marked (is 1) (s .marks) (p .functions))
-  pub spent : Spent p entry (s .marks) (s .book) x
+  pub spent : Spent p entry (s .marks) (s .book) added x
   pub stored : AllStored p (s .stages) (s .book .store)
   pub apart : Apart p (s .stages)
   pub fits : (v : ℕ) → MarkFits p entry v (getD (s .marks) v 0)
@@ -116,12 +117,12 @@ module _ {p : Problem} {entry : List ℕ} where
   settled :
       (x : Verdict) (s : State) → Reachable p entry s → ((v : ℕ) → Names x v → ⊥)
       → ((c : Cause) → x ≡ undecided c → ((v : ℕ) → c ≡ Rows v → p .first ≤ v) → InputsMarked p (s .marks))
-      → Ended p entry x s
+      → Ended p entry x 0 s
   settled x s r nameless all =
       record {
         proper = r .accounted .proper;
         holds = r .accounted .holds;
-        spent = in-full nameless (r .accounted .steps);
+        spent = in-full nameless (r .accounted .steps) refl;
         stored = r .stored;
         apart = r .apart;
         fits = r .accounted .fits;
@@ -132,7 +133,7 @@ module _ {p : Problem} {entry : List ℕ} where
       }
 
   -- Equal and Different.
-  pub decided-ends : (x : Verdict) (s : State) → Reachable p entry s → ((c : Cause) → x ≡ undecided c → ⊥) → Ended p entry x s
+  pub decided-ends : (x : Verdict) (s : State) → Reachable p entry s → ((c : Cause) → x ≡ undecided c → ⊥) → Ended p entry x 0 s
   decided-ends x s r decided =
       settled x s r (λ v n. unnamed n decided) (λ c e h. absurd (decided c e))
     where
@@ -147,11 +148,11 @@ module _ {p : Problem} {entry : List ℕ} where
     unmarked = r .fits v .bare-unmarked is-bare
 
     named :
-        (x : Verdict) (steps : ℕ) → Names x v → (p .first ≤ v → InputsMarked p (set (s .marks) v 3)) → steps ≤ p .limits .steps
-        → Spent p entry (set (s .marks) v 3) (record { store = s .book .store; steps = steps }) x
+        (x : Verdict) (steps added : ℕ) → Names x v → (p .first ≤ v → InputsMarked p (set (s .marks) v 3)) → steps ≤ p .limits .steps
+        → Spent p entry (set (s .marks) v 3) (record { store = s .book .store; steps = steps }) added x
         → ((c : Cause) → x ≡ undecided c → ((v : ℕ) → c ≡ Rows v → p .first ≤ v) → InputsMarked p (set (s .marks) v 3))
-        → Ended p entry x (withMark v 3 (withBook (record { store = s .book .store; steps = steps }) s))
-    named x steps n made few spent all =
+        → Ended p entry x added (withMark v 3 (withBook (record { store = s .book .store; steps = steps }) s))
+    named x steps added n made few spent all =
         record {
           proper = record { no-repeats = r .accounted .proper .no-repeats; rows = r .accounted .proper .rows; taken = few };
           holds = record { members = holds-now (r .accounted) (r .steady .marked) v within unmarked 3 refl .members };
@@ -198,23 +199,57 @@ module _ {p : Problem} {entry : List ℕ} (fit : Fit p entry) where
     scanning-inputs v l h = input-marked (r .fits v) l h .1 (c .first-have v h)
 
   module _ {n v : ℕ} {s : State} (due : Due p entry n v s) (r : Reachable p entry s) where
+    -- A product that broke off, its operands by the entry rows.
+    broke-off :
+        (short : Book → Outcome) {ps : List Truth} (b : Book) → productOf p v s ≡ short b → Grown (p .limits .rows) (p .limits .steps) ps (s .book) b
+        → BrokeOff p entry (set (s .marks) v 3) short v (length (s .book .store)) (b .steps) (addedTo (s .book) b)
+    broke-off short b e G =
+        record {
+          made = due .made;
+          before = s .book;
+          after = b;
+          parts-before = holds-now (r .accounted) (r .steady .marked) v (due-within due) (due-unmarked fit due r) 3 refl .members;
+          rows-before = refl;
+          steps-before =
+              r .accounted .steps
+              ∙ ap (λ (xs : List And). sum (map andSteps xs))
+              (sym (ands-stay p entry (isEither 1 2) (s .marks) (r .steady .marked) v 3 (due .made) (ap (isEither 1 2) (due-unmarked fit due r)) refl));
+          ran = sym (pair-runs (p .limits .rows) (p .limits .steps) (s .book) (operands-kept fit (due .steady) v (due .made) (due-within due) (due-unmerged fit due))) ∙ e;
+          rows-after = omega (arith, grown-length G);
+          steps-after = refl;
+        }
+
     -- A product short of rows.
-    row-ends : (b : Book) → productOf p v s ≡ shortOfRows b → Ended p entry (undecided (Rows v)) (withMark v 3 (withBook (givenBack (s .book) b) s))
+    row-ends :
+        (b : Book) → productOf p v s ≡ shortOfRows b
+        → Ended p entry (undecided (Rows v)) (addedTo (s .book) b) (withMark v 3 (withBook (givenBack (s .book) b) s))
     row-ends b e =
-        named s r v (due-within due) (due-nonzero fit due r) (due .is-bare) (due-entry fit due r) (undecided (Rows v)) (b .steps) by-rows (λ l. due-inputs fit due r 3) (R .grown .proper .taken)
+        named s r v (due-within due) (due-nonzero fit due r) (due .is-bare) (due-entry fit due r) (undecided (Rows v)) (b .steps) (addedTo (s .book) b)
+        by-rows (λ l. due-inputs fit due r 3) (R .grown .proper .taken)
         (no-row
-        (rw (← (last-rows (r .accounted) (r .steady .marked) v (due-within due) (due-unmarked fit due r))) (rows-together (functionOf p v) (r .accounted .holds) R)))
+        (record {
+          over = rw (← (last-rows (r .accounted) (r .steady .marked) v (due-within due) (due-unmarked fit due r))) (rows-together (functionOf p v) (r .accounted .holds) R);
+          full = omega (arith, grown-length (R .grown), R .full);
+          broke = at-and (broke-off shortOfRows b e (R .grown));
+        }))
         (λ c i h. due-inputs fit due r 3)
       where
         R : ShortOfRows (p .limits .rows) (p .limits .steps) (parts (functionOf p v)) 1 (andSteps (andAt p entry v)) (s .book) b
         R = is-short-of-rows (product-ran fit due (r .stored) (r .accounted .proper)) e
 
     -- A product short of steps.
-    step-ends : (b : Book) → productOf p v s ≡ shortOfSteps b → Ended p entry (undecided (Steps v)) (withMark v 3 (withBook (givenBack (s .book) b) s))
+    step-ends :
+        (b : Book) → productOf p v s ≡ shortOfSteps b
+        → Ended p entry (undecided (Steps v)) (addedTo (s .book) b) (withMark v 3 (withBook (givenBack (s .book) b) s))
     step-ends b e =
-        named s r v (due-within due) (due-nonzero fit due r) (due .is-bare) (due-entry fit due r) (undecided (Steps v)) (b .steps) by-steps (λ l. due-inputs fit due r 3) (S .grown .proper .taken)
-        (no-step (S .full)
-        (rw (last-steps (r .accounted) (r .steady .marked) v (due-within due) (due-unmarked fit due r) (due .made)) (S .over)))
+        named s r v (due-within due) (due-nonzero fit due r) (due .is-bare) (due-entry fit due r) (undecided (Steps v)) (b .steps) (addedTo (s .book) b)
+        by-steps (λ l. due-inputs fit due r 3) (S .grown .proper .taken)
+        (no-step
+        (record {
+          over = rw (last-steps (r .accounted) (r .steady .marked) v (due-within due) (due-unmarked fit due r) (due .made)) (S .over);
+          full = S .full;
+          broke = broke-off shortOfSteps b e (S .grown);
+        }))
         (λ c i h. due-inputs fit due r 3)
       where
         S : ShortOfSteps (p .limits .rows) (p .limits .steps) (parts (functionOf p v)) (andSteps (andAt p entry v)) (s .book) b
@@ -223,12 +258,17 @@ module _ {p : Problem} {entry : List ℕ} (fit : Fit p entry) where
   -- An input short of its row.
   input-ends :
       (v : ℕ) (b : Book) (s : State) → Giving p v s → 1 ≤ v → v < p .first → inputRow p v s ≡ shortOfRows b → Reachable p entry s
-      → Ended p entry (undecided (Rows v)) (withMark v 3 s)
+      → Ended p entry (undecided (Rows v)) 0 (withMark v 3 s)
   unfolding bare?
   input-ends v b s g l h e r =
-      named s r v within (λ i. omega arith) is-bare (first-unmerged (p .first) entry v h) (undecided (Rows v)) (s .book .steps) by-rows (λ l. absurd (omega arith)) (r .accounted .proper .taken)
+      named s r v within (λ i. omega arith) is-bare (first-unmerged (p .first) entry v h) (undecided (Rows v)) (s .book .steps) 0 by-rows
+      (λ l. absurd (omega arith)) (r .accounted .proper .taken)
       (no-row
-      (rw (← (last-rows (r .accounted) (r .steady .marked) v within (r .fits v .bare-unmarked is-bare))) (rows-together (functionOf p v) (r .accounted .holds) R)))
+      (record {
+        over = rw (← (last-rows (r .accounted) (r .steady .marked) v within unmarked)) (rows-together (functionOf p v) (r .accounted .holds) R);
+        full = omega (arith, r .accounted .proper .rows, add-short (p .limits .rows) (topPart (functionOf p v)) (s .book) e);
+        broke = at-input h (r .accounted .steps ∙ no-steps) refl;
+      }))
       (λ c i k. let j : c ≡ Rows v = cc in absurd (omega (arith, k v j)))
     where
       within : v < vertexCount p
@@ -237,11 +277,28 @@ module _ {p : Problem} {entry : List ℕ} (fit : Fit p entry) where
       is-bare : bare? (stageOf (s .stages) v) ≡ true
       is-bare = ap bare? (g .later v l (omega arith) h)
 
+      unmarked : getD (s .marks) v 0 ≡ 0
+      unmarked = r .fits v .bare-unmarked is-bare
+
+      -- No AND is marked before every input is.
+      no-steps : stepsMarked p entry (s .marks) ≡ 0
+      no-steps = unfold sum in
+          ap (λ (xs : List And). sum (map andSteps xs))
+          (marked-none (isEither 1 2) (drop (p .first) (s .marks)) (andsOf p entry)
+          (λ i. ap (isEither 1 2) (getD-drop (p .first) (s .marks) i 0 ∙ none (p .first + i) (omega arith))))
+        where
+          none : (u : ℕ) → p .first ≤ u → getD (s .marks) u 0 ≡ 0
+          none u m =
+              elim (ℕ-discrete (getD (s .marks) u 0) 0) [
+                | yes i ↦ i
+                | no i ↦ absurd (omega (arith, r .inputs-first u m i v l h, unmarked))
+              ]
+
       R : ShortOfRows (p .limits .rows) (p .limits .steps) (parts (functionOf p v)) 0 0 (s .book) b
       R = is-short-of-rows (input-row-ran (fit .well-formed) s (r .accounted .proper) v l h) e
 
   -- None waits.
-  rest-ends : {n : ℕ} (s : State) → Scanning p n (vertexCount p) s → Reachable p entry s → Ended p entry (undecided Size) s
+  rest-ends : {n : ℕ} (s : State) → Scanning p n (vertexCount p) s → Reachable p entry s → Ended p entry (undecided Size) 0 s
   rest-ends s c r = settled (undecided Size) s r (λ v m. elim m [ ]) (λ x i k. scanning-inputs c r)
 
   -- Each step of the sweep keeps it.

@@ -14,7 +14,7 @@ use Rattle.sweep_model.proofs.SomeDropped.{rest-dropped, sweep-rests}
 use Rattle.sweep_model.proofs.Stages.{has-not-gone}
 use Rattle.sweep_model.proofs.Steady.{alive-within}
 use Rattle.sweep_model.proofs.Tidy.{made-merged}
-use Rattle.sweep_model.specs.Claims.{And, Names, andSteps, andsOf, by-rows, by-steps, is, isEither, marked, rowsMarked, rowsMarkedWithLast, stepsMarked, stepsMarkedWithLast, sum}
+use Rattle.sweep_model.specs.Claims.{AfterRows, AfterSteps, And, Names, andSteps, andsOf, by-rows, by-steps, is, isEither, marked, rowsMarked, rowsMarkedWithLast, stepsMarked, stepsMarkedWithLast, sum}
 use Rattle.sweep_model.specs.Fit.{Fit, vertexCount}
 use Rattle.sweep_model.specs.Normalise.{merged?, wasMerged?}
 use Rattle.sweep_model.specs.code.Reachable.{InputsMarked}
@@ -54,7 +54,7 @@ andsUnmerged p entry = chosenFrom (λ v. not (wasMerged? (p .first) entry v)) (p
 
 module _ {p : Problem} {entry : List ℕ} (fit : Fit p entry) where
   -- What holds of the verdict and of the state that it leaves.
-  pub sweep-ended : Ended p entry (sweep p entry .verdict) (leftBy p entry)
+  pub sweep-ended : Ended p entry (sweep p entry .verdict) (sweep p entry .added) (leftBy p entry)
   sweep-ended = sweep-keeps fit (reachable-keeps fit)
 
   -- There is a mark a vertex.
@@ -172,46 +172,47 @@ module _ {p : Problem} {entry : List ℕ} (fit : Fit p entry) where
   pub rows-within : length (leftBy p entry .book .store) ≤ p .limits .rows
   rows-within = sweep-ended .proper .rows
 
-  -- Steps are those of the ANDs marked 1 or 2, where the verdict names no vertex.
-  pub steps-counted : ((v : ℕ) → Names (sweep p entry .verdict) v → ⊥) → leftBy p entry .book .steps ≡ stepsMarked p entry (leftBy p entry .marks)
-  steps-counted unnamed = go (sweep-ended .spent) unnamed
+  -- What the verdict says of rows, steps and rows added.
+  abbrev SpentHere : Verdict → Type 0
+  SpentHere x = Spent p entry (leftBy p entry .marks) (leftBy p entry .book) (sweep p entry .added) x
+
+  -- Where the verdict names no vertex, steps are those of the ANDs marked 1 or 2, and no rows are added.
+  pub counts-settled :
+      ((v : ℕ) → Names (sweep p entry .verdict) v → ⊥)
+      → (leftBy p entry .book .steps ≡ stepsMarked p entry (leftBy p entry .marks)) × (sweep p entry .added ≡ 0)
+  counts-settled unnamed = go (sweep-ended .spent) unnamed
     where
-      go : {x : Verdict} → Spent p entry (leftBy p entry .marks) (leftBy p entry .book) x → ((v : ℕ) → Names x v → ⊥)
-          → leftBy p entry .book .steps ≡ stepsMarked p entry (leftBy p entry .marks)
-      go (in-full n e) u = e
+      go : {x : Verdict} → SpentHere x → ((v : ℕ) → Names x v → ⊥)
+          → (leftBy p entry .book .steps ≡ stepsMarked p entry (leftBy p entry .marks)) × (sweep p entry .added ≡ 0)
+      go (in-full n e z) u = (e, z)
       go (no-row {v = v} h) u = absurd (u v by-rows)
-      go (no-step {v = v} e h) u = absurd (u v by-steps)
+      go (no-step {v = v} h) u = absurd (u v by-steps)
 
   -- They are within the limit.
   pub steps-within : leftBy p entry .book .steps ≤ p .limits .steps
   steps-within = sweep-ended .proper .taken
 
-  -- After Rows the functions marked 1 or 3 have more parts than the row limit.
-  pub rows-passed : (v : ℕ) → sweep p entry .verdict ≡ undecided (Rows v) → p .limits .rows < rowsMarkedWithLast p (leftBy p entry .marks)
-  rows-passed v e = go (rw e at (sweep-ended .spent))
+  -- What is said after Rows, the operands by the entry rows.
+  pub after-rows :
+      (v : ℕ) → sweep p entry .verdict ≡ undecided (Rows v)
+      → AfterRows p entry (leftBy p entry .marks) v (length (leftBy p entry .book .store)) (leftBy p entry .book .steps) (sweep p entry .added)
+  after-rows v e = go (rw e at (sweep-ended .spent))
     where
-      go : {v : ℕ} → Spent p entry (leftBy p entry .marks) (leftBy p entry .book) (undecided (Rows v))
-          → p .limits .rows < rowsMarkedWithLast p (leftBy p entry .marks)
-      go {v} (in-full n i) = absurd (n v by-rows)
+      go : {v : ℕ} → SpentHere (undecided (Rows v))
+          → AfterRows p entry (leftBy p entry .marks) v (length (leftBy p entry .book .store)) (leftBy p entry .book .steps) (sweep p entry .added)
+      go {v} (in-full n i z) = absurd (n v by-rows)
       go (no-row h) = h
 
-  module _ (v : ℕ) (e : sweep p entry .verdict ≡ undecided (Steps v)) where
-    -- After Steps the steps are the limit.
-    pub steps-full : leftBy p entry .book .steps ≡ p .limits .steps
-    steps-full = go (rw e at (sweep-ended .spent))
-      where
-        go : {v : ℕ} → Spent p entry (leftBy p entry .marks) (leftBy p entry .book) (undecided (Steps v)) → leftBy p entry .book .steps ≡ p .limits .steps
-        go {v} (in-full n i) = absurd (n v by-steps)
-        go (no-step i h) = i
-
-    -- The sum with the vertex marked 3 exceeds it.
-    pub steps-passed : p .limits .steps < stepsMarkedWithLast p entry (leftBy p entry .marks)
-    steps-passed = go (rw e at (sweep-ended .spent))
-      where
-        go : {v : ℕ} → Spent p entry (leftBy p entry .marks) (leftBy p entry .book) (undecided (Steps v))
-            → p .limits .steps < stepsMarkedWithLast p entry (leftBy p entry .marks)
-        go {v} (in-full n i) = absurd (n v by-steps)
-        go (no-step i h) = h
+  -- What is said after Steps.
+  pub after-steps :
+      (v : ℕ) → sweep p entry .verdict ≡ undecided (Steps v)
+      → AfterSteps p entry (leftBy p entry .marks) v (length (leftBy p entry .book .store)) (leftBy p entry .book .steps) (sweep p entry .added)
+  after-steps v e = go (rw e at (sweep-ended .spent))
+    where
+      go : {v : ℕ} → SpentHere (undecided (Steps v))
+          → AfterSteps p entry (leftBy p entry .marks) v (length (leftBy p entry .book .store)) (leftBy p entry .book .steps) (sweep p entry .added)
+      go {v} (in-full n i z) = absurd (n v by-steps)
+      go (no-step h) = h
 
   -- After Size some vertex is marked 2: one that is dropped.
   pub size-some : sweep p entry .verdict ≡ undecided Size → (v : ℕ) × (v < vertexCount p) × (markLeft p entry v ≡ 2)
@@ -241,8 +242,8 @@ module _ {p : Problem} {entry : List ℕ} (fit : Fit p entry) where
 
   -- After Rows the vertices not merged at entry have more parts than the row limit.
   pub rows-short : (v : ℕ) → sweep p entry .verdict ≡ undecided (Rows v) → p .limits .rows < together (functionsUnmerged p entry)
-  rows-short v e = omega (arith, rows-passed v e, rows-bounded)
+  rows-short v e = omega (arith, after-rows v e .over, rows-bounded)
 
   -- After Steps the ANDs not merged at entry take more steps than the step limit.
   pub steps-short : (v : ℕ) → sweep p entry .verdict ≡ undecided (Steps v) → p .limits .steps < sum (map andSteps (andsUnmerged p entry))
-  steps-short v e = omega (arith, steps-passed v e, steps-bounded)
+  steps-short v e = omega (arith, after-steps v e .over, steps-bounded)

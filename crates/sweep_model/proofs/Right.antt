@@ -65,7 +65,7 @@ module _ {p : Problem} {entry : List ℕ} (fit : Fit p entry) where
         across : g ≡ invert f
         across = invert-across (sym inverse)
 
-  right-ends : Endings p entry (λ x s. Right x)
+  right-ends : Endings p entry (λ x k s. Right x)
   right-ends =
       record {
         same-literal = λ s h e. now-right s h (tells-equal (ap (literalFunction p) e));

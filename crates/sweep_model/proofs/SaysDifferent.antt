@@ -16,8 +16,8 @@ use mathlib.Core.Path.{_≡_}
 
 module _ {p : Problem} {entry : List ℕ} (fit : Fit p entry) where
   -- If the verdict is Different, the outputs are apart.
-  abbrev Seen : Verdict → State → Type 0
-  Seen x s = (t : Setting) → x ≡ different t → OutputsApart p s
+  abbrev Seen : Verdict → ℕ → State → Type 0
+  Seen x k s = (t : Setting) → x ≡ different t → OutputsApart p s
 
   -- Whether the vertex of a literal has a diagram.
   abbrev has : State → ℕ → Bool

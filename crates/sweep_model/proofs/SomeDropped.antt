@@ -50,7 +50,7 @@ module _ {p : Problem} {entry : List ℕ} (fit : Fit p entry) where
   NotStarving (scanning n k) s = NoneStarves (p .first) (s .rows) (s .stages) k
 
   -- Each step of the sweep keeps it.
-  pub no-starving : Keeps p entry NotStarving (λ x s. Unit {0})
+  pub no-starving : Keeps p entry NotStarving (λ x k s. Unit {0})
   unfolding NotStarving swept dropVertex bare?
   no-starving =
       unclaimed

@@ -235,7 +235,7 @@ module _ {p : Problem} {entry : List ℕ} (fit : Fit p entry) where
       }
 
   -- Each step of the sweep keeps it.
-  pub sources-keep : Keeps p entry (λ place s. Recorded p s) (λ x s. Unit {0})
+  pub sources-keep : Keeps p entry (λ place s. Recorded p s) (λ x k s. Unit {0})
   unfolding gone? swept
   sources-keep =
       unclaimed

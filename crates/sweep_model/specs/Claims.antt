@@ -1,11 +1,13 @@
--- What the rules say of a reply: marks, rows, steps, and the conditions after each. (RULES 7.4 to 7.10)
+-- What the rules say of a reply: marks, rows, steps, rows added, and the conditions after each. (RULES 7.4 to 7.11)
 use Prim.Native.Nat.{_+_, _-_, _<_, _≤_, suc, zero, ℕ}
 use Rattle.aig.specs.Literal.{vertexOf}
 use Rattle.aig.specs.Lookup.{firstWord, secondWord}
+use Rattle.product_model.specs.Run.{Book, Outcome, run, shortOfRows, shortOfSteps}
 use Rattle.sweep_model.specs.State.{Problem, literalFunction}
 use Rattle.sweep_model.specs.Sweep.{Verdict, undecided}
 use Rattle.sweep_model.specs.declared.Cause.the-variants.{Rows, Steps}
-use Rattle.truth.specs.Parts.{together}
+use Rattle.truth.specs.Distinct.{among}
+use Rattle.truth.specs.Parts.{allParts, alike?, together}
 use Rattle.truth.specs.Steps.{steps}
 use Rattle.truth.specs.Truth.{Truth, conj}
 use lib.Dec.{eqb}
@@ -66,6 +68,40 @@ stepsMarked p rows marks = sum (map andSteps (marked (isEither 1 2) (drop (p .fi
 abbrev pub stepsMarkedWithLast : Problem → List ℕ → List ℕ → ℕ
 stepsMarkedWithLast p rows marks =
     sum (map andSteps (marked (λ m. isEither 1 2 m || is 3 m) (drop (p .first) marks) (andsOf p rows)))
+
+-- "The product shall give, when it breaks off too, the steps taken and the rows it had added.": that of AND v, its operands by given rows. The
+-- book that it began with holds, up to inversion, exactly the parts of the functions marked 1, as many as the rows reported, and the steps of
+-- the ANDs marked 1 or 2; the book where it fell short has the rows added besides, and the steps reported. (RULES 7.8, 7.11)
+pub record BrokeOff (p : Problem) (operands marks : List ℕ) (short : Book → Outcome) (v rows steps added : ℕ) : Type 0 where
+  pub made : p .first ≤ v
+  pub before : Book
+  pub after : Book
+  pub parts-before : (t : Truth) → among alike? t (before .store) ≡ among alike? t (allParts (marked (is 1) marks (p .functions)))
+  pub rows-before : length (before .store) ≡ rows
+  pub steps-before : before .steps ≡ stepsMarked p operands marks
+  pub ran : run (p .limits .rows) (p .limits .steps) (literalFunction p (firstWord operands v)) (literalFunction p (secondWord operands v)) before
+      ≡ short after
+  pub rows-after : length (after .store) ≡ rows + added
+  pub steps-after : after .steps ≡ steps
+
+-- "after Rows the steps are the sum over the ANDs marked 1 or 2 plus the broken product's", "the rows added, 0 where none broke": at an AND
+-- its product broke off, at an input none began. (RULES 7.8, 7.11)
+pub data BrokeAt (p : Problem) (operands marks : List ℕ) (v rows steps added : ℕ) : Type 0 where
+  at-and : BrokeOff p operands marks shortOfRows v rows steps added → BrokeAt p operands marks v rows steps added
+  at-input : v < p .first → steps ≡ 0 → added ≡ 0 → BrokeAt p operands marks v rows steps added
+
+-- "After Rows, the functions marked 1 or 3 have more parts than the row limit.", "they and the rows reported make the row limit": the rows added
+-- are meant. (RULES 7.8, 7.11)
+pub record AfterRows (p : Problem) (operands marks : List ℕ) (v rows steps added : ℕ) : Type 0 where
+  pub over : p .limits .rows < rowsMarkedWithLast p marks
+  pub full : rows + added ≡ p .limits .rows
+  pub broke : BrokeAt p operands marks v rows steps added
+
+-- "After Steps, steps = the limit, and the sum with the vertex marked 3 exceeds it." (RULES 7.7, 7.11)
+pub record AfterSteps (p : Problem) (operands marks : List ℕ) (v rows steps added : ℕ) : Type 0 where
+  pub over : p .limits .steps < stepsMarkedWithLast p operands marks
+  pub full : steps ≡ p .limits .steps
+  pub broke : BrokeOff p operands marks shortOfSteps v rows steps added
 
 -- "3 the vertex named by Rows or Steps" (RULES 7.4)
 pub data Names : Verdict → ℕ → Type 0 where

@@ -21,14 +21,14 @@ pub data Verdict : Type 0 where
   different : Setting → Verdict
   undecided : Cause → Verdict
 
--- The sweep goes on, or ends with a verdict.
+-- The sweep goes on, or ends with a verdict and "the rows added, 0 where none broke". (RULES 7.11)
 pub data Progress : Type 0 where
   on : State → Progress
-  ends : Verdict → State → Progress
+  ends : Verdict → ℕ → State → Progress
 
 unfoldable pub andThen : Progress → (State → Progress) → Progress
 andThen (on s) next = next s
-andThen (ends x s) next = ends x s
+andThen (ends x n s) next = ends x n s
 
 -- "both have diagrams" (RULES 6.5)
 abbrev pub bothHave? : List Stage → ℕ → ℕ → Bool
@@ -38,11 +38,11 @@ bothHave? stages l r = has? (stageOf stages (vertexOf l)) && has? (stageOf stage
 -- and are not one reference, Different.": two functions with diagrams are compared themselves. (RULES 6.2, 6.5)
 unfoldable pub lookAt : Problem → State → ℕ → ℕ → Progress
 lookAt p s l r =
-    cond (eqb l r) (ends equal s)
-    (cond (eqb l (negate r)) (ends (different (replicate (p .inputs) false)) s)
+    cond (eqb l r) (ends equal 0 s)
+    (cond (eqb l (negate r)) (ends (different (replicate (p .inputs) false)) 0 s)
     (cond (bothHave? (s .stages) l r)
-    (cond (same? (literalFunction p l) (literalFunction p r)) (ends equal s)
-    (ends (different (firstDifference (literalFunction p l) (literalFunction p r))) s))
+    (cond (same? (literalFunction p l) (literalFunction p r)) (ends equal 0 s)
+    (ends (different (firstDifference (literalFunction p l) (literalFunction p r))) 0 s))
     (on s)))
 
 unfoldable pub look : Problem → State → Progress
@@ -61,8 +61,8 @@ topPart (node f g) = cond (same? f g) (topPart f) (node f g)
 -- vertex at which the row limit was passed", marked 3. (RULES 6.3, 7.3, 7.4)
 unfoldable pub giveRow : ℕ → State → Outcome → Progress
 giveRow v s (done b) = on (swept v (withBook b s))
-giveRow v s (shortOfRows b) = ends (undecided (Rows v)) (withMark v 3 s)
-giveRow v s (shortOfSteps b) = ends (undecided (Steps v)) (withMark v 3 s)
+giveRow v s (shortOfRows b) = ends (undecided (Rows v)) 0 (withMark v 3 s)
+giveRow v s (shortOfSteps b) = ends (undecided (Steps v)) 0 (withMark v 3 s)
 
 unfoldable pub giveInputs : Problem → ℕ → ℕ → State → Progress
 giveInputs p v zero s = on s
@@ -88,6 +88,10 @@ meet p v s (at w) =
     normalise (p .first)
     (swept v (withRows (mergedInto (s .rows) (max v w) (literalOf (min v w) (not (same? (functionOf p v) (functionOf p w))))) s))
 
+-- "the rows it had added": those in the store when a product broke off, less those before it began. (RULES 7.11)
+abbrev pub addedTo : Book → Book → ℕ
+addedTo old b = length (b .store) - length (old .store)
+
 -- The rows of a book given back to those of another; its steps stay.
 abbrev pub givenBack : Book → Book → Book
 givenBack old b = record { store = old .store; steps = b .steps }
@@ -103,8 +107,8 @@ conclude p v s (done b) =
     cond (ltb (p .limits .size) (size (functionOf p v)))
     (look p (dropVertex v b s))
     (look p (meet p v (withBook b s) (twinFrom p (s .stages) v 0 (length (s .stages)))))
-conclude p v s (shortOfRows b) = ends (undecided (Rows v)) (withMark v 3 (withBook (givenBack (s .book) b) s))
-conclude p v s (shortOfSteps b) = ends (undecided (Steps v)) (withMark v 3 (withBook (givenBack (s .book) b) s))
+conclude p v s (shortOfRows b) = ends (undecided (Rows v)) (addedTo (s .book) b) (withMark v 3 (withBook (givenBack (s .book) b) s))
+conclude p v s (shortOfSteps b) = ends (undecided (Steps v)) (addedTo (s .book) b) (withMark v 3 (withBook (givenBack (s .book) b) s))
 
 -- "has its product taken": of the functions of the two operands. (RULES 6.4)
 unfoldable pub multiply : Problem → ℕ → State → Progress
@@ -188,15 +192,16 @@ start p rows =
     andThen (look p (normalise (p .first) (begin p rows))) λ s.
     andThen (giveInputs p 1 (p .first - 1) s) (look p)
 
--- The verdict and the state that it leaves.
+-- The verdict, the rows added, and the state that it leaves.
 pub record Result : Type 0 where
   pub verdict : Verdict
+  pub added : ℕ
   pub left : State
 
 -- "6. If none waits, the reply is Undecided.": "by Size (some vertex dropped, none waiting)". (RULES 6.6, 7.3)
 unfoldable pub resultOf : Progress → Result
-resultOf (ends x s) = record { verdict = x; left = s }
-resultOf (on s) = record { verdict = undecided Size; left = s }
+resultOf (ends x n s) = record { verdict = x; added = n; left = s }
+resultOf (on s) = record { verdict = undecided Size; added = 0; left = s }
 
 -- The whole sweep on the entry rows.
 unfoldable pub sweep : Problem → List ℕ → Result

@@ -7,9 +7,11 @@ pub enum Cause {
     Steps(u32),
 }
 
+// The rows in use, the product steps taken, and the rows that a product which broke off had added: those were given back.
 pub struct Counts {
     pub rows: u32,
     pub steps: u32,
+    pub added: u32,
 }
 
 pub enum Reply {

@@ -158,7 +158,7 @@ module _ {t : Task} {x : InputContext} {a : Arrays} {used : ℕ} where
 
   -- No row is left for it.
   pub given-short : {b : Arrays} (v : ℕ) → GivenTo t x a used v → 1 ≤ v → v < t .first → RowLacked t v used a b
-      → giveRow v (stateIn t x a used) (inputRow (posed t (x .functions)) v (stateIn t x a used)) ≡ ends (undecided (Rows v)) (stateIn t x b used)
+      → giveRow v (stateIn t x a used) (inputRow (posed t (x .functions)) v (stateIn t x a used)) ≡ ends (undecided (Rows v)) 0 (stateIn t x b used)
   unfolding giveRow
   given-short zero g l h r = absurd (omega arith)
   given-short {b} (suc i) g l h r =

@@ -56,6 +56,7 @@ fn give_inputs(
             end: End::Undecided(Cause::Rows(v)),
             used,
             steps: 0,
+            added: 0,
         },
     }
 }
@@ -81,6 +82,7 @@ pub fn start(
             end,
             used: 0,
             steps: 0,
+            added: 0,
         },
     }
 }

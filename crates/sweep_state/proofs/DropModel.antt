@@ -1,5 +1,5 @@
 -- A product dropped, or broken off: its rows are given back, and the words stand for the model's state.
-use Prim.Native.Nat.{_*_, _/_, _<_, _≤_, ℕ}
+use Prim.Native.Nat.{_*_, _-_, _/_, _<_, _≤_, ℕ}
 use Rattle.aig.specs.Lookup.{firstWord}
 use Rattle.bdd.specs.Diagram.{storeOf}
 use Rattle.bdd.specs.code.Rows.{ownerAt}
@@ -73,13 +73,14 @@ module _
 
   pub broken-closed :
       (k : ℕ) → k ≤ t .steps → (c : Cause)
-      → Closed t functions (workspace (w .pairs) (arrays (w .diagrams) (w .stages) after (set (w .marks) v 3))) (w .used) k (Undecided c)
+      → Closed t functions (workspace (w .pairs) (arrays (w .diagrams) (w .stages) after (set (w .marks) v 3))) (w .used) k (u - w .used) (Undecided c)
   broken-closed k h c =
       record {
         store = r .given-back .store;
         drawn = λ x l e. drawing-kept (rep .store .canonical) (same-rows .agree) (rep .drawn x l e);
         refers = tt;
         counted = h;
+        fitted = omega (arith, r .grown .more, r .grown .store .room .used);
       }
 
   -- Dropped.

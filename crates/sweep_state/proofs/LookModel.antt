@@ -138,25 +138,25 @@ module _ {t : Task} {functions : List Truth} {entry : List ℕ} {w : Words} (rep
       compared :
           LiteralDrawn t functions w l → LiteralDrawn t functions w r → (e : Bool)
           → progressOf (w .rows) (t .inputs) s (cond e (Decided Equal) (Decided (Differ f g)))
-          ≡ cond e (ends equal s)
-          (ends (different (firstDifference (literalFunction (posed t functions) l) (literalFunction (posed t functions) r))) s)
+          ≡ cond e (ends equal 0 s)
+          (ends (different (firstDifference (literalFunction (posed t functions) l) (literalFunction (posed t functions) r))) 0 s)
       compared a b true = refl
-      compared a b false = ap₂ (λ (x y : Truth). ends (different (firstDifference x y)) s) (a .means) (b .means)
+      compared a b false = ap₂ (λ (x y : Truth). ends (different (firstDifference x y)) 0 s) (a .means) (b .means)
 
       both :
           LiteralDrawn t functions w l → LiteralDrawn t functions w r
           → progressOf (w .rows) (t .inputs) s (cond (eqb f g) (Decided Equal) (Decided (Differ f g)))
-          ≡ cond (same? (literalFunction (posed t functions) l) (literalFunction (posed t functions) r)) (ends equal s)
-          (ends (different (firstDifference (literalFunction (posed t functions) l) (literalFunction (posed t functions) r))) s)
+          ≡ cond (same? (literalFunction (posed t functions) l) (literalFunction (posed t functions) r)) (ends equal 0 s)
+          (ends (different (firstDifference (literalFunction (posed t functions) l) (literalFunction (posed t functions) r))) 0 s)
       both a b = rw (same-reference l r a b) (compared a b (eqb f g))
 
       go : (a b x : Bool) → hasWord (w .stages) (vertexOf l) ≡ x → (y : Bool) → hasWord (w .stages) (vertexOf r) ≡ y
           → progressOf (w .rows) (t .inputs) s (cond a (Decided Equal) (cond b (Decided Inverse) (cond (x && y) (cond (eqb f g) (Decided Equal) (Decided (Differ f g))) Nothing)))
-          ≡ cond a (ends equal s)
-          (cond b (ends (different (replicate (t .inputs) false)) s)
+          ≡ cond a (ends equal 0 s)
+          (cond b (ends (different (replicate (t .inputs) false)) 0 s)
           (cond (x && y)
-          (cond (same? (literalFunction (posed t functions) l) (literalFunction (posed t functions) r)) (ends equal s)
-          (ends (different (firstDifference (literalFunction (posed t functions) l) (literalFunction (posed t functions) r))) s))
+          (cond (same? (literalFunction (posed t functions) l) (literalFunction (posed t functions) r)) (ends equal 0 s)
+          (ends (different (firstDifference (literalFunction (posed t functions) l) (literalFunction (posed t functions) r))) 0 s))
           (on s)))
       go true b x ex y ey = refl
       go false true x ex y ey = refl

@@ -15,9 +15,10 @@ pub enum Seen {
     Nothing,
 }
 
-// How a sweep ended, the rows used and the steps taken.
+// How a sweep ended, the rows used, the steps taken, and the rows that a product which broke off had added.
 pub struct Ended {
     pub end: End,
     pub used: usize,
     pub steps: usize,
+    pub added: usize,
 }

@@ -1,7 +1,8 @@
 -- A product, as the model takes it.
-use Prim.Native.Nat.{_*_, _<_, _≤_, ℕ}
+use Prim.Native.Nat.{_*_, _-_, _<_, _≤_, ℕ}
 use Rattle.aig.specs.Literal.{vertexOf}
 use Rattle.aig.specs.Lookup.{firstWord, secondWord}
+use Rattle.bdd.proofs.StoreLaws.{store-length}
 use Rattle.bdd.specs.code.Store.{Store}
 use Rattle.bdd_unique.specs.code.Unique.{GivenBack}
 use Rattle.product.specs.Product.{Multiplied, Multiplies, bookOf, outcomeOf, usedBy}
@@ -12,7 +13,7 @@ use Rattle.sweep_model.proofs.Stages.{open-has}
 use Rattle.sweep_model.proofs.Steady.{due-within}
 use Rattle.sweep_model.specs.State.{functionOf, open?, stageOf, withBook, withMark}
 use Rattle.sweep_model.specs.code.Steady.{productOf}
-use Rattle.sweep_model.specs.Sweep.{conclude, dropVertex, ends, givenBack, look, meet, multiply, twinFrom, undecided}
+use Rattle.sweep_model.specs.Sweep.{addedTo, conclude, dropVertex, ends, givenBack, look, meet, multiply, twinFrom, undecided}
 use Rattle.sweep_model.specs.declared.Cause.the-variants.{Rows, Steps}
 use Rattle.sweep_model.specs.declared.Cause.{Cause}
 use Rattle.sweep_state.proofs.DropModel.{Returns, broken-closed, broken-state, due-inside}
@@ -133,14 +134,16 @@ module _ {t : Task} {x : Context} {v used steps : ℕ} {b : Workspace} (d : DueO
   broken-ends :
       {rows last : List ℕ} {u : ℕ} → Returns t (onWorkspace b used steps) rows last u → (k : ℕ) → k ≤ t .steps → (c : Cause)
       → multiplied t x v used steps b
-      ≡ ends (undecided c)
+      ≡ ends (undecided c) (addedTo (stateOn t b used steps .book) (bookOf rows u k))
       (withMark v 3 (withBook (givenBack (stateOn t b used steps .book) (bookOf rows u k)) (stateOn t b used steps)))
       → Ends t (x .functions) (multiplied t x v used steps b)
-      (workspace (b .pairs) (arrays (b .arrays .diagrams) (b .arrays .stages) last (set (b .arrays .marks) v 3))) used k (Undecided c)
+      (workspace (b .pairs) (arrays (b .arrays .diagrams) (b .arrays .stages) last (set (b .arrays .marks) v 3))) used k (u - used) (Undecided c)
   unfolding verdictOf
-  broken-ends r k h c e =
+  broken-ends {rows} {u = u} r k h c e =
       record {
-        reached = e ∙ ap (ends (undecided c)) (sym (broken-state (d .represents) r (d .due) k));
+        reached =
+            e
+            ∙ ap₂ (ends (undecided c)) (ap₂ _-_ (store-length rows u) (store-length (b .arrays .rows) used)) (sym (broken-state (d .represents) r (d .due) k));
         closed = broken-closed (d .represents) r (d .due) k h c;
       }
 
@@ -152,7 +155,7 @@ module _ {t : Task} {x : Context} {v used steps : ℕ} {b : Workspace} (d : DueO
     pub multiply-lacks-rows :
         {last marks : List ℕ} → GivenBack rows last (t .rows) u used → length last ≡ length (b .arrays .rows) → marks ≡ set (b .arrays .marks) v 3
         → Ends t (x .functions) (multiplied t x v used steps b) (workspace (b .pairs) (arrays (b .arrays .diagrams) (b .arrays .stages) last marks)) used k
-        (Undecided (Rows v))
+        (u - used) (Undecided (Rows v))
     unfolding multiply conclude
     multiply-lacks-rows g long em =
         let m : Ran rows (ShortOfRows u k) = subst (Gave rows) told gave in
@@ -168,7 +171,7 @@ module _ {t : Task} {x : Context} {v used steps : ℕ} {b : Workspace} (d : DueO
     pub multiply-lacks-steps :
         {last marks : List ℕ} → GivenBack rows last (t .rows) u used → length last ≡ length (b .arrays .rows) → marks ≡ set (b .arrays .marks) v 3
         → Ends t (x .functions) (multiplied t x v used steps b) (workspace (b .pairs) (arrays (b .arrays .diagrams) (b .arrays .stages) last marks)) used k
-        (Undecided (Steps v))
+        (u - used) (Undecided (Steps v))
     unfolding multiply conclude
     multiply-lacks-steps g long em =
         let m : Ran rows (ShortOfSteps u k) = subst (Gave rows) told gave in
@@ -210,5 +213,5 @@ pub multiply-concludes :
     → ((x : Context) → DueOn t x v used steps b → Ended t (settingOf x b steps taken) v reference more used (onRows b rows))
     → (after : Workspace) (r : Step) → Concludes t v reference more used taken (onRows b rows) after r → Takes t v used steps b after r
 multiply-concludes t v steps b {taken = taken} ended after (step.Looked seen left k) c = λ x d. c (settingOf x b steps taken) (ended x d) refl
-multiply-concludes t v steps b ended after (step.Rows left k) c = absurd c
-multiply-concludes t v steps b ended after (step.Steps left k) c = absurd c
+multiply-concludes t v steps b ended after (step.Rows left k more) c = absurd c
+multiply-concludes t v steps b ended after (step.Steps left k more) c = absurd c

@@ -12,7 +12,8 @@ ghost use Rattle.sweep_state.specs.code.Settle.{EndedIn};
 ghost use Rattle.sweep_step.specs.code.Multiply.{Concludes, DueIn, Takes};
 ghost use lib.ListN.{length};
 
-// What was seen after a product that is done, or the limit that was passed; with the rows then used and the steps taken.
+// What was seen after a product that is done, or the limit that was passed and the rows that the product had added; with the rows then used and
+// the steps taken.
 pub enum Step {
     Looked {
         seen: Seen,
@@ -22,10 +23,12 @@ pub enum Step {
     Rows {
         used: usize,
         steps: usize,
+        added: usize,
     },
     Steps {
         used: usize,
         steps: usize,
+        added: usize,
     },
 }
 
@@ -107,12 +110,14 @@ pub fn multiply(
             steps,
         ),
         Product::ShortOfRows { used: more, steps } => {
+            let added = more - used;
             break_off(rows, marks, task, v, more, used);
-            Step::Rows { used, steps }
+            Step::Rows { used, steps, added }
         }
         Product::ShortOfSteps { used: more, steps } => {
+            let added = more - used;
             break_off(rows, marks, task, v, more, used);
-            Step::Steps { used, steps }
+            Step::Steps { used, steps, added }
         }
     }
 }

@@ -155,7 +155,7 @@ module _
             }
 
       -- The turn ended the sweep.
-      pub turns-stop : {u k : ℕ} {n : End} → g ≡ Ended n u k → Goes t used₀ steps₀ b₀ after (Ended n u k)
+      pub turns-stop : {u k more : ℕ} {n : End} → g ≡ Ended n u k more → Goes t used₀ steps₀ b₀ after (Ended n u k more)
       unfolding andThen
       turns-stop h = λ x o.
           let r = subst (Opens t v used steps b after) h opens _ (picked-opens (s .here x o) v (sym e ∙ f)) in

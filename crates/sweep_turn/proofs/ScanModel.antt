@@ -83,8 +83,8 @@ module _
       })
 
   pub scan-stops :
-      (after : Workspace) {g : Going} {e : End} {u k : ℕ} → v < t .count → g ≡ Ended e u k → Visits t v used steps b after g
-      → Scans t from used₀ steps₀ b₀ after (Ended e u k)
+      (after : Workspace) {g : Going} {e : End} {u k n : ℕ} → v < t .count → g ≡ Ended e u k n → Visits t v used steps b after g
+      → Scans t from used₀ steps₀ b₀ after (Ended e u k n)
   unfolding andThen
   scan-stops after h e visits = λ x o.
       let ended = subst (Visits t v used steps b after) e visits x (s .here x o) in

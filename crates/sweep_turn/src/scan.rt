@@ -47,7 +47,17 @@ pub fn scan(
                 more = used;
                 taken = steps;
             }
-            Going::Ended { end, used, steps } => return Going::Ended { end, used, steps },
+            Going::Ended {
+                end,
+                used,
+                steps,
+                added,
+            } => return Going::Ended {
+                end,
+                used,
+                steps,
+                added,
+            },
         }
         v += 1;
     }

@@ -83,7 +83,17 @@ pub fn go(
                         more = used;
                         taken = steps;
                     }
-                    Going::Ended { end, used, steps } => return Going::Ended { end, used, steps },
+                    Going::Ended {
+                        end,
+                        used,
+                        steps,
+                        added,
+                    } => return Going::Ended {
+                        end,
+                        used,
+                        steps,
+                        added,
+                    },
                 }
             }
             Picked::None => {

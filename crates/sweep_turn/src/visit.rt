@@ -18,10 +18,18 @@ ghost use Rattle.sweep_turn.specs.code.Visit.{ReadyAsked, ScanIn, Visits
 ghost use lib.ListN.{length};
 ghost use mathlib.Core.Path.{_≡_};
 
-// The sweep goes on or ends, with the rows then used and the steps taken.
+// The sweep goes on or ends, with the rows then used and the steps taken; at its end also with the rows that a product which broke off had added.
 pub enum Going {
-    On { used: usize, steps: usize },
-    Ended { end: End, used: usize, steps: usize },
+    On {
+        used: usize,
+        steps: usize,
+    },
+    Ended {
+        end: End,
+        used: usize,
+        steps: usize,
+        added: usize,
+    },
 }
 
 fn operand_is_open(stages: &[u32], r: Literal) -> bool
@@ -52,7 +60,12 @@ pub fn after_look(seen: Seen, used: usize, steps: usize) -> Going
     ensures { λ r. ⌜ r ≡ goingBy seen used steps ⌝ }
 {
     match seen {
-        Seen::Decided(end) => Going::Ended { end, used, steps },
+        Seen::Decided(end) => Going::Ended {
+            end,
+            used,
+            steps,
+            added: 0,
+        },
         Seen::Nothing => Going::On { used, steps },
     }
 }
@@ -63,15 +76,17 @@ fn after_product(step: Step, v: u32) -> Going
 {
     match step {
         Step::Looked { seen, used, steps } => after_look(seen, used, steps),
-        Step::Rows { used, steps } => Going::Ended {
+        Step::Rows { used, steps, added } => Going::Ended {
             end: End::Undecided(Cause::Rows(v)),
             used,
             steps,
+            added,
         },
-        Step::Steps { used, steps } => Going::Ended {
+        Step::Steps { used, steps, added } => Going::Ended {
             end: End::Undecided(Cause::Steps(v)),
             used,
             steps,
+            added,
         },
     }
 }

@@ -44,7 +44,7 @@ steps-positive (node a b) (node c d) = rw (steps-node a b c d) (go (terminal? (n
     go false false h = h
 
 -- The order of the two functions does not matter.
-terminal-symmetric : (f g : Truth) → terminal? f g ≡ terminal? g f
+pub terminal-symmetric : (f g : Truth) → terminal? f g ≡ terminal? g f
 unfolding terminal?
 terminal-symmetric f g = ap₂ _||_ (or-comm (constant? f) (constant? g)) (alike-sameness .symmetric f g)
 

@@ -35,6 +35,17 @@ value-conj (node a b) (node c d) [] = value-conj a c []
 value-conj (node a b) (node c d) (true ∷ s) = value-conj b d s
 value-conj (node a b) (node c d) (false ∷ s) = value-conj a c s
 
+-- A conjunction is the same in either order.
+pub conj-symmetric : (f g : Truth) → conj f g ≡ conj g f
+unfolding conj
+conj-symmetric (leaf true) (leaf true) = refl
+conj-symmetric (leaf true) (leaf false) = refl
+conj-symmetric (leaf false) (leaf true) = refl
+conj-symmetric (leaf false) (leaf false) = refl
+conj-symmetric (leaf a) (node c d) = refl
+conj-symmetric (node a b) (leaf c) = refl
+conj-symmetric (node a b) (node c d) = ap₂ node (conj-symmetric a c) (conj-symmetric b d)
+
 -- An or has the or of the two values.
 pub value-disj : (f g : Truth) (s : Setting) → valueAt (disj f g) s ≡ valueAt f s || valueAt g s
 unfolding disj

@@ -13,6 +13,9 @@ cast-t5 c = search needs
 cast-t6 : tie.Need-cast-t6
 cast-t6 c = search needs
 
+cast-t7 : tie.Need-cast-t7
+cast-t7 c = search needs
+
 enum-told : tie.Need-enum-told
 enum-told c = search needs
 
@@ -47,6 +50,7 @@ reply-of-spec =
     (tie.spec
     cast-t5
     cast-t6
+    cast-t7
     enum-told
     enum-told-2
     enum-told-3

@@ -1,5 +1,5 @@
 -- What the parts of a comparison that is not refused give each other: the sweep's task, how it ended, and what follows it.
-use Prim.Native.Nat.{_*_, _≤_, ℕ}
+use Prim.Native.Nat.{_*_, _+_, _≤_, ℕ}
 use Rattle.bdd.specs.code.Store.{Store}
 use Rattle.compare_model.specs.Compare.{Given, answerTo, limitsOf, maxRows, maxSteps, overFront, problemOf}
 use Rattle.compare_model.specs.declared.Limits.{Limits as Asked}
@@ -32,9 +32,10 @@ pub record SweepRan (g : Given) (pairs rows marks : List ℕ) (e : Ended) : Type
   pub marks-left : overFront (answerTo g .left .marks) (g .marks) ≡ marks
   pub rows-used : length (answerTo g .left .book .store) ≡ e .used
   pub steps-taken : answerTo g .left .book .steps ≡ e .steps
+  pub rows-added : answerTo g .added ≡ e .added
   pub store : Store rows (g .limits .rows) (e .used)
   pub refers : Refers rows (e .used) (inputsOf (g .table)) (e .end)
-  pub within : e .used ≤ maxRows
+  pub within : e .used + e .added ≤ maxRows
   pub counted : e .steps ≤ maxSteps
 
 -- The same, by the slices of the comparison.
@@ -48,5 +49,5 @@ pub record Finishes (table pairs rows : List ℕ) (limit : ℕ) (e : Ended) (set
   pub room : inputsOf table ≤ setting
   pub store : Store rows limit (e .used)
   pub refers : Refers rows (e .used) (inputsOf table) (e .end)
-  pub within : e .used ≤ maxRows
+  pub within : e .used + e .added ≤ maxRows
   pub counted : e .steps ≤ maxSteps

@@ -34,7 +34,7 @@ show-reply-requires c κs =
     closed (a .task) (a .pairs .now) (start .pre) (a .look .now) (a .diagrams .now) (a .stages .now) (a .rows .now) (marks .result) after
     (swept .result) (swept .ensures)
     in
-    (e .store, (e .refers, (omega (arith, e .counted, start .pre .limited .steps .1), start .pre .named .inputs)))
+    (e .store, (e .refers, ((omega (arith, e .counted, start .pre .limited .steps .1), omega (arith, e .fitted, start .pre .limited .rows .1)), start .pre .named .inputs)))
 
 slice-aggregate-show-marks : tie.Need-slice-aggregate-show-marks
 slice-aggregate-show-marks c = search needs

@@ -16,12 +16,12 @@ use mathlib.Core.Path.{_≡_}
 
 -- The answer that an end and the words stand for.
 abbrev pub answerBy : Task → Workspace → Ended → Result
-answerBy t b r = record { verdict = verdictOf (b .arrays .rows) (t .inputs) (r .end); left = stateOn t b (r .used) (r .steps) }
+answerBy t b r = record { verdict = verdictOf (b .arrays .rows) (t .inputs) (r .end); added = r .added; left = stateOn t b (r .used) (r .steps) }
 
 -- The model's answer is that of the end and the words.
 pub record SweepAnswers (t : Task) (functions : List Truth) (a : Result) (b : Workspace) (r : Ended) : Type 0 where
   pub answer : a ≡ answerBy t b r
-  pub closed : Closed t functions b (r .used) (r .steps) (r .end)
+  pub closed : Closed t functions b (r .used) (r .steps) (r .added) (r .end)
 
 -- From the first turn on.
 abbrev pub Rests : Task → ℕ → ℕ → Workspace → Workspace → Ended → Type 0

@@ -51,7 +51,7 @@ pub record AllGiven (t : Task) (x : InputContext) (a : Arrays) (used : ℕ) (b :
 
 -- "Rows with the vertex at which the row limit was passed". (RULES 7.3)
 abbrev pub ShortAt : Task → InputContext → Arrays → ℕ → Arrays → ℕ → ℕ → Type 0
-ShortAt t x a used b v more = Ends t (x .functions) (givingFrom t x a used 1) (workspace (x .pairs) b) more (x .steps) (Undecided (Rows v))
+ShortAt t x a used b v more = Ends t (x .functions) (givingFrom t x a used 1) (workspace (x .pairs) b) more (x .steps) 0 (Undecided (Rows v))
 
 abbrev pub GivesRows : Task → Arrays → ℕ → Arrays → Inputs → Type 0
 GivesRows t a used b (All more) = (x : InputContext) → GivenTo t x a used 1 → AllGiven t x a used b more

@@ -1,5 +1,5 @@
 -- How a sweep ends, by words.
-use Prim.Native.Nat.{_<_, _≤_, ℕ}
+use Prim.Native.Nat.{_+_, _<_, _≤_, ℕ}
 use Rattle.aig.specs.Lookup.{firstWord, secondWord}
 use Rattle.bdd.specs.Diagram.{Reference, denote}
 use Rattle.bdd.specs.code.Store.{Store}
@@ -33,15 +33,16 @@ Refers rows used inputs (Differ f g) = Reference rows used inputs f × Reference
 Refers rows used inputs (Undecided c) = Unit {0}
 
 -- What the words are where a sweep has ended: a store of the rows in use, the diagrams of the vertices that have one, the references of the
--- end, and steps within the limit.
-pub record Closed (t : Task) (functions : List Truth) (b : Workspace) (used steps : ℕ) (e : End) : Type 0 where
+-- end, and steps within the limit, as are the rows with those added.
+pub record Closed (t : Task) (functions : List Truth) (b : Workspace) (used steps added : ℕ) (e : End) : Type 0 where
   pub store : Store (b .arrays .rows) (t .rows) used
   pub drawn : (v : ℕ) → v < t .count → hasWord (b .arrays .stages) v ≡ true
       → Drawing t functions (b .arrays .rows) used v (firstWord (b .arrays .diagrams) v) (secondWord (b .arrays .diagrams) v)
   pub refers : Refers (b .arrays .rows) used (t .inputs) e
   pub counted : steps ≤ t .steps
+  pub fitted : used + added ≤ t .rows
 
--- The model's progress has ended, and the words stand for its verdict and its state.
-pub record Ends (t : Task) (functions : List Truth) (o : Progress) (b : Workspace) (used steps : ℕ) (e : End) : Type 0 where
-  pub reached : o ≡ ends (verdictOf (b .arrays .rows) (t .inputs) e) (stateOn t b used steps)
-  pub closed : Closed t functions b used steps e
+-- The model's progress has ended with these rows added, and the words stand for its verdict and its state.
+pub record Ends (t : Task) (functions : List Truth) (o : Progress) (b : Workspace) (used steps added : ℕ) (e : End) : Type 0 where
+  pub reached : o ≡ ends (verdictOf (b .arrays .rows) (t .inputs) e) added (stateOn t b used steps)
+  pub closed : Closed t functions b used steps added e

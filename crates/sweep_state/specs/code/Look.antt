@@ -45,7 +45,7 @@ pub record Looks (t : Task) (pairs diagrams stages : List ℕ) : Type 0 where
 
 -- How the sweep goes on or ends, by what was seen in a state with these rows, of some inputs.
 unfoldable pub progressOf : List ℕ → ℕ → State → Seen → Progress
-progressOf rows inputs s (Decided e) = ends (verdictOf rows inputs e) s
+progressOf rows inputs s (Decided e) = ends (verdictOf rows inputs e) 0 s
 progressOf rows inputs s Nothing = on s
 
 -- The references seen are those of rows in use.

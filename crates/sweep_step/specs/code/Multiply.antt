@@ -51,12 +51,12 @@ sceneOf x = record { functions = x .functions; entry = x .entry; turns = x .turn
 abbrev pub Concludes : Task → ℕ → ℕ → ℕ → ℕ → ℕ → Workspace → Workspace → Step → Type 0
 Concludes t v reference used kept steps b after (step.Looked seen more taken) =
     (x : BeforeProduct) → Ended t x v reference used kept b → x .taken ≡ steps → Looked t (sceneOf x) v kept (x .steps) (workspaceBefore x b) after seen more taken
-Concludes t v reference used kept steps b after (step.Rows more taken) = ⊥
-Concludes t v reference used kept steps b after (step.Steps more taken) = ⊥
+Concludes t v reference used kept steps b after (step.Rows more taken added) = ⊥
+Concludes t v reference used kept steps b after (step.Steps more taken added) = ⊥
 
 abbrev pub Takes : Task → ℕ → ℕ → ℕ → Workspace → Workspace → Step → Type 0
 Takes t v used steps b after (step.Looked seen more taken) = (x : Context) → DueOn t x v used steps b → Looked t x v used steps b after seen more taken
-Takes t v used steps b after (step.Rows more taken) =
-    (x : Context) → DueOn t x v used steps b → Ends t (x .functions) (multiplied t x v used steps b) after more taken (Undecided (Rows v))
-Takes t v used steps b after (step.Steps more taken) =
-    (x : Context) → DueOn t x v used steps b → Ends t (x .functions) (multiplied t x v used steps b) after more taken (Undecided (Steps v))
+Takes t v used steps b after (step.Rows more taken added) =
+    (x : Context) → DueOn t x v used steps b → Ends t (x .functions) (multiplied t x v used steps b) after more taken added (Undecided (Rows v))
+Takes t v used steps b after (step.Steps more taken added) =
+    (x : Context) → DueOn t x v used steps b → Ends t (x .functions) (multiplied t x v used steps b) after more taken added (Undecided (Steps v))

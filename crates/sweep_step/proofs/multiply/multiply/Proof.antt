@@ -8,6 +8,7 @@ use Rattle.sweep_step.proofs.multiply.multiply.Tie as tie
 use borrow.Author.Needs.{needs}
 use lib.ListN.{length}
 use mathlib.Core.Path.{_≡_}
+use native.Mathlib.Omega.{arith}
 
 take-product-requires : tie.Need-take-product-requires
 take-product-requires c κs = product-asked (c .before .before .before .before .before .before .before .before .before .pre .0 .on)
@@ -23,11 +24,17 @@ conclude-requires c κs =
 enum-known-product-2 : tie.Need-enum-known-product-2
 enum-known-product-2 c = search needs
 
+sub-added : tie.Need-sub-added
+sub-added c = omega (arith, lacking-rows (c .before .before .before .before .before .before .before .before .before .before .before .before .before .before .before .pre .0 .on) (c .before .before .before .before .before .take-product .last .1 .1 .0) (c .before .product2 .given .1) (c .before .before .before .before .before .take-product .ensures) .0 .1)
+
 break-off-requires : tie.Need-break-off-requires
 break-off-requires c κs = lacking-rows (c .before .before .before .before .before .before .before .before .before .before .before .before .before .before .before .before .before .pre .0 .on) (c .before .before .before .before .before .before .before .take-product .last .1 .1 .0) (c .before .before .before .product2 .given .1) (c .before .before .before .before .before .before .before .take-product .ensures)
 
 enum-known-product-3 : tie.Need-enum-known-product-3
 enum-known-product-3 c = search needs
+
+sub-added-2 : tie.Need-sub-added-2
+sub-added-2 c = omega (arith, lacking-steps (c .before .before .before .before .before .before .before .before .before .before .before .before .before .before .before .pre .0 .on) (c .before .before .before .before .before .take-product .last .1 .1 .0) (c .before .product3 .given .1) (c .before .before .before .before .before .take-product .ensures) .0 .1)
 
 break-off-requires-2 : tie.Need-break-off-requires-2
 break-off-requires-2 c κs = lacking-steps (c .before .before .before .before .before .before .before .before .before .before .before .before .before .before .before .before .before .pre .0 .on) (c .before .before .before .before .before .before .before .take-product .last .1 .1 .0) (c .before .before .before .product3 .given .1) (c .before .before .before .before .before .before .before .take-product .ensures)
@@ -102,8 +109,10 @@ multiply-spec =
     enum-known-product
     conclude-requires
     enum-known-product-2
+    sub-added
     break-off-requires
     enum-known-product-3
+    sub-added-2
     break-off-requires-2
     same-length
     same-length-2
