@@ -32,7 +32,7 @@ pub data Each (P : Call → Type 0) : List Call → Type 0 where
 
 -- "After the list every output of both files still has its file's value on every setting, and each reply kept demand 2 for the files'
 -- outputs", and what demand 3 says of its rows, its steps and its cause. Of each that was not refused: what its marks mean, and what the rules
--- says of its reply by them. (RULES 7.4, 12.3)
+-- say of its reply by them. (RULES 7.4, 12.3)
 pub record Holds (d e : Netlist) (loaded : List ℕ) (calls : List Call) (last : List ℕ) : Type 0 where
   pub values : (side k : ℕ) (s : Setting) → k < length (d .outputs) → length s ≡ d .inputs
       → outputValue (graphOf last) side k s ≡ sideValue d e side k s
