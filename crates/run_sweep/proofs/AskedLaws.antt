@@ -121,5 +121,5 @@ module _ (t : Task) (pairs : List ℕ) (h : Asked t pairs) where
         }
 
     -- What the words are where it has ended.
-    pub closed : (after : Workspace) (r : Ended) → Sweeps t before after r → Closed t functions after (r .used) (r .steps) (r .added) (r .end)
+    pub closed : (after : Workspace) (r : Ended) → Sweeps t before after r → Closed t functions after r
     closed after r sweeps = sweeps functions has-functions .closed

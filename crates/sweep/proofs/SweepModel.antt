@@ -2,11 +2,10 @@
 use Prim.Native.Nat.{ℕ}
 use Rattle.sweep_model.specs.Sweep.{Progress, andThen, go, resultOf, sweep}
 use Rattle.sweep_model.specs.declared.Cause.the-variants.{Size}
-use Rattle.sweep_state.specs.code.Ending.{verdictOf}
+use Rattle.sweep_state.specs.code.Ending.{endedWith, verdictOf}
 use Rattle.sweep_state.specs.code.Meet.{Workspace}
 use Rattle.sweep_state.specs.code.Words.{posed}
 use Rattle.sweep_state.specs.declared.end.End.the-variants.{Undecided}
-use Rattle.sweep_state.specs.declared.end.End.{End}
 use Rattle.sweep_state.specs.declared.end.Ended as result
 use Rattle.sweep_state.specs.declared.task.Task.{Task}
 use Rattle.sweep_start.specs.code.Start.{Starts, SweepAsked}
@@ -18,10 +17,6 @@ use Rattle.sweep.specs.code.Sweep.{Rests, Sweeps}
 use mathlib.Core.List.{List}
 use mathlib.Core.Path.{_∙_, _≡_, ap, subst}
 
--- An end with the rows used, the steps taken and the rows added.
-abbrev pub endedWith : End → ℕ → ℕ → ℕ → result.Ended
-endedWith e used steps added = record { end = e; used = used; steps = steps; added = added }
-
 module _ (t : Task) (used steps : ℕ) (b after : Workspace) {g : Going} (goes : Goes t used steps b after g) where
   -- None waits: undecided, by Size.
   pub rest-answers : {more taken : ℕ} → g ≡ On more taken → Rests t used steps b after (endedWith (Undecided Size) more taken 0)
@@ -31,7 +26,7 @@ module _ (t : Task) (used steps : ℕ) (b after : Workspace) {g : Going} (goes :
       record { answer = ap resultOf (r .reached); closed = represents-closed (r .represents) tt }
 
   -- A turn ended the sweep.
-  pub turn-answers : {more taken added : ℕ} {e : End} → g ≡ Ended e more taken added → Rests t used steps b after (endedWith e more taken added)
+  pub turn-answers : {n : result.Ended} → g ≡ Ended n → Rests t used steps b after n
   unfolding resultOf
   turn-answers h = λ x o.
       let r = subst (Goes t used steps b after) h goes x o in
@@ -59,7 +54,7 @@ module _ (t : Task) (b middle : Workspace) {g : Going} (starts : Starts t b midd
         }
 
   -- The start ended the sweep.
-  pub start-answers : {used steps added : ℕ} {e : End} → g ≡ Ended e used steps added → Sweeps t b middle (endedWith e used steps added)
+  pub start-answers : {n : result.Ended} → g ≡ Ended n → Sweeps t b middle n
   unfolding andThen resultOf sweep
   start-answers h = λ functions poses.
       let s = subst (Starts t b middle) h starts functions poses in

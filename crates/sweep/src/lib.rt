@@ -48,17 +48,7 @@ fn finish(
             steps,
             added: 0,
         },
-        Going::Ended {
-            end,
-            used,
-            steps,
-            added,
-        } => Ended {
-            end,
-            used,
-            steps,
-            added,
-        },
+        Going::Ended(ended) => ended,
     }
 }
 
@@ -88,16 +78,6 @@ pub fn sweep(
             used,
             steps,
         ),
-        Going::Ended {
-            end,
-            used,
-            steps,
-            added,
-        } => Ended {
-            end,
-            used,
-            steps,
-            added,
-        },
+        Going::Ended(ended) => ended,
     }
 }

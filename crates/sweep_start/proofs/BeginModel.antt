@@ -7,7 +7,7 @@ use Rattle.sweep_model.specs.code.Steady.{Scanning, Unsettled, haveNow?, leftNo
 use Rattle.sweep_model.specs.Sweep.{Progress, Verdict, andThen, different, ends, equal, giveInputs, look, lookAt, on, start, turnsLeft}
 use Rattle.sweep_model.specs.declared.Cause.the-variants.{Rows}
 use Rattle.sweep_state.proofs.LookModel.{look-models, look-refers, looks}
-use Rattle.sweep_state.specs.code.Ending.{Ends, verdictOf}
+use Rattle.sweep_state.specs.code.Ending.{Ends, endedWith, verdictOf}
 use Rattle.sweep_state.specs.code.Look.{Looks, SeenRefers, progressOf, seenBy}
 use Rattle.sweep_state.specs.code.Meet.{Workspace, workspace}
 use Rattle.sweep_state.specs.code.Represents.{Represents}
@@ -149,7 +149,7 @@ module _
 pub given-short :
     (t : Task) (b : Workspace) (after : Arrays) (v used : ℕ) {o : Inputs} → o ≡ Short v used → GivesRows t (b .arrays) 0 after o
     → (functions : List Truth) (entry : List ℕ) → Prepared t functions entry b
-    → Ends t functions (inputsGiven t functions b) (workspace (b .pairs) after) used 0 0 (Undecided (Rows v))
+    → Ends t functions (inputsGiven t functions b) (workspace (b .pairs) after) (endedWith (Undecided (Rows v)) used 0 0)
 unfolding andThen verdictOf
 given-short t b after v used short gave functions entry h =
     let x = subst (GivesRows t (b .arrays) 0 after) short gave (frameOf functions entry b) (prepared-given h) in
@@ -195,7 +195,7 @@ module _ (t : Task) (b middle : Workspace) (prepares : Prepares t b middle) wher
     start-gives e after (On used steps) gave = λ functions h.
         let x = gave functions (b .pairs) (prepares functions h .prepared) in
         record { reached = start-nothing e functions h ∙ x .reached; rests = x .rests }
-    start-gives e after (Ended end used steps added) gave = λ functions h.
+    start-gives e after (Ended r) gave = λ functions h.
         let x = gave functions (b .pairs) (prepares functions h .prepared) in
         record { reached = start-nothing e functions h ∙ x .reached; closed = x .closed }
 
@@ -203,7 +203,7 @@ module _ (t : Task) (b middle : Workspace) (prepares : Prepares t b middle) wher
     start-ended :
         (functions : List Truth) (h : HasFunctions t functions (b .pairs)) {e : End}
         → start (posed t functions) (b .pairs) ≡ progressOf (middle .arrays .rows) (t .inputs) (stateOn t middle 0 0) seen
-        → goingBy seen 0 0 ≡ Ended e 0 0 0 → Ends t functions (start (posed t functions) (b .pairs)) middle 0 0 0 e
+        → goingBy seen 0 0 ≡ Ended (endedWith e 0 0 0) → Ends t functions (start (posed t functions) (b .pairs)) middle (endedWith e 0 0 0)
     start-ended functions h reached i =
         let rep = prepares functions h .prepared .represents in
         looked-ends seen rep reached (subst (SeenRefers (middle .arrays .rows) 0 (t .inputs)) (sym es) (look-refers rep)) i
@@ -211,6 +211,6 @@ module _ (t : Task) (b middle : Workspace) (prepares : Prepares t b middle) wher
   -- The sweep ends after the first look where something was seen.
   pub start-ends :
       {seen : Seen} → seen ≡ seenBy t (middle .pairs) (middle .arrays .diagrams) (middle .arrays .stages) → {e : End} → seen ≡ Decided e
-      → Starts t b middle (Ended e 0 0 0)
+      → Starts t b middle (Ended (endedWith e 0 0 0))
   unfolding progressOf andThen
   start-ends es i = λ functions h. start-ended (sym i ∙ es) functions h (start-seen (sym i ∙ es) functions h) refl

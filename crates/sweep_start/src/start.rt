@@ -6,6 +6,7 @@ use sweep_model::Cause;
 use sweep_normalise::normalise::normalise;
 use sweep_pick::begin::begin;
 use sweep_state::end::End;
+use sweep_state::end::Ended;
 use sweep_state::end::Seen;
 use sweep_state::task::Task;
 use sweep_take::take::takes;
@@ -52,12 +53,12 @@ fn give_inputs(
             let seen = sweep_look::look::look(pairs, &diagrams[..], &stages[..], task);
             after_look(seen, used, 0)
         }
-        Inputs::Short(v, used) => Going::Ended {
+        Inputs::Short(v, used) => Going::Ended(Ended {
             end: End::Undecided(Cause::Rows(v)),
             used,
             steps: 0,
             added: 0,
-        },
+        }),
     }
 }
 
@@ -78,11 +79,11 @@ pub fn start(
     let seen = sweep_look::look::look(&pairs[..], &diagrams[..], &stages[..], task);
     match seen {
         Seen::Nothing => give_inputs(&pairs[..], diagrams, stages, rows, marks, task),
-        Seen::Decided(end) => Going::Ended {
+        Seen::Decided(end) => Going::Ended(Ended {
             end,
             used: 0,
             steps: 0,
             added: 0,
-        },
+        }),
     }
 }

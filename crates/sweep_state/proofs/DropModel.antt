@@ -20,7 +20,7 @@ use Rattle.sweep_model.specs.Sweep.{dropVertex, givenBack}
 use Rattle.sweep_model.specs.declared.Cause.{Cause}
 use Rattle.sweep_state.proofs.DrawModel.{drawing-kept}
 use Rattle.sweep_state.proofs.LookModel.{has-stage}
-use Rattle.sweep_state.specs.code.Ending.{Closed}
+use Rattle.sweep_state.specs.code.Ending.{Closed, endedWith}
 use Rattle.sweep_state.specs.code.Meet.{workspace}
 use Rattle.sweep_state.specs.code.Represents.{Owns, Represents}
 use Rattle.sweep_state.specs.code.Arrays.{arrays}
@@ -73,7 +73,8 @@ module _
 
   pub broken-closed :
       (k : ℕ) → k ≤ t .steps → (c : Cause)
-      → Closed t functions (workspace (w .pairs) (arrays (w .diagrams) (w .stages) after (set (w .marks) v 3))) (w .used) k (u - w .used) (Undecided c)
+      → Closed t functions (workspace (w .pairs) (arrays (w .diagrams) (w .stages) after (set (w .marks) v 3)))
+      (endedWith (Undecided c) (w .used) k (u - w .used))
   broken-closed k h c =
       record {
         store = r .given-back .store;

@@ -18,7 +18,7 @@ use Rattle.sweep_model.specs.declared.Cause.the-variants.{Rows, Steps}
 use Rattle.sweep_model.specs.declared.Cause.{Cause}
 use Rattle.sweep_state.proofs.DropModel.{Returns, broken-closed, broken-state, due-inside}
 use Rattle.sweep_state.proofs.LookModel.{LiteralDrawn, has-stage, literal-drawn, look-models, look-refers}
-use Rattle.sweep_state.specs.code.Ending.{Ends, verdictOf}
+use Rattle.sweep_state.specs.code.Ending.{Ends, endedWith, verdictOf}
 use Rattle.sweep_state.specs.code.Look.{SeenRefers, progressOf, seenBy}
 use Rattle.sweep_state.specs.code.Meet.{Workspace, workspace}
 use Rattle.sweep_draw.specs.code.Operands.{ProductAsked, firstOperand, secondOperand}
@@ -137,7 +137,8 @@ module _ {t : Task} {x : Context} {v used steps : ℕ} {b : Workspace} (d : DueO
       ≡ ends (undecided c) (addedTo (stateOn t b used steps .book) (bookOf rows u k))
       (withMark v 3 (withBook (givenBack (stateOn t b used steps .book) (bookOf rows u k)) (stateOn t b used steps)))
       → Ends t (x .functions) (multiplied t x v used steps b)
-      (workspace (b .pairs) (arrays (b .arrays .diagrams) (b .arrays .stages) last (set (b .arrays .marks) v 3))) used k (u - used) (Undecided c)
+      (workspace (b .pairs) (arrays (b .arrays .diagrams) (b .arrays .stages) last (set (b .arrays .marks) v 3)))
+      (endedWith (Undecided c) used k (u - used))
   unfolding verdictOf
   broken-ends {rows} {u = u} r k h c e =
       record {
@@ -154,8 +155,8 @@ module _ {t : Task} {x : Context} {v used steps : ℕ} {b : Workspace} (d : DueO
 
     pub multiply-lacks-rows :
         {last marks : List ℕ} → GivenBack rows last (t .rows) u used → length last ≡ length (b .arrays .rows) → marks ≡ set (b .arrays .marks) v 3
-        → Ends t (x .functions) (multiplied t x v used steps b) (workspace (b .pairs) (arrays (b .arrays .diagrams) (b .arrays .stages) last marks)) used k
-        (u - used) (Undecided (Rows v))
+        → Ends t (x .functions) (multiplied t x v used steps b) (workspace (b .pairs) (arrays (b .arrays .diagrams) (b .arrays .stages) last marks))
+        (endedWith (Undecided (Rows v)) used k (u - used))
     unfolding multiply conclude
     multiply-lacks-rows g long em =
         let m : Ran rows (ShortOfRows u k) = subst (Gave rows) told gave in
@@ -170,8 +171,8 @@ module _ {t : Task} {x : Context} {v used steps : ℕ} {b : Workspace} (d : DueO
 
     pub multiply-lacks-steps :
         {last marks : List ℕ} → GivenBack rows last (t .rows) u used → length last ≡ length (b .arrays .rows) → marks ≡ set (b .arrays .marks) v 3
-        → Ends t (x .functions) (multiplied t x v used steps b) (workspace (b .pairs) (arrays (b .arrays .diagrams) (b .arrays .stages) last marks)) used k
-        (u - used) (Undecided (Steps v))
+        → Ends t (x .functions) (multiplied t x v used steps b) (workspace (b .pairs) (arrays (b .arrays .diagrams) (b .arrays .stages) last marks))
+        (endedWith (Undecided (Steps v)) used k (u - used))
     unfolding multiply conclude
     multiply-lacks-steps g long em =
         let m : Ran rows (ShortOfSteps u k) = subst (Gave rows) told gave in

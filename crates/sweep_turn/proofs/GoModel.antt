@@ -14,7 +14,7 @@ use Rattle.sweep_model.specs.Sweep.{Progress, andThen, go, goFor, pickFrom, tur
 use Rattle.sweep_state.specs.code.Meet.{Workspace}
 use Rattle.sweep_state.specs.code.Settle.{stateOn}
 use Rattle.sweep_state.specs.code.Words.{posed}
-use Rattle.sweep_state.specs.declared.end.End.{End}
+use Rattle.sweep_state.specs.declared.end.Ended as result
 use Rattle.sweep_state.specs.declared.task.Task.{Task}
 use Rattle.sweep_step.specs.code.Multiply.{Context}
 use Rattle.sweep_turn.proofs.ScanModel.{SameLengths, lengths-then}
@@ -155,7 +155,7 @@ module _
             }
 
       -- The turn ended the sweep.
-      pub turns-stop : {u k more : ℕ} {n : End} → g ≡ Ended n u k more → Goes t used₀ steps₀ b₀ after (Ended n u k more)
+      pub turns-stop : {n : result.Ended} → g ≡ Ended n → Goes t used₀ steps₀ b₀ after (Ended n)
       unfolding andThen
       turns-stop h = λ x o.
           let r = subst (Opens t v used steps b after) h opens _ (picked-opens (s .here x o) v (sym e ∙ f)) in

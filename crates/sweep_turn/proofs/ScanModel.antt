@@ -3,7 +3,7 @@ use Prim.Native.Nat.{_+_, _-_, _<_, _≤_, suc, ℕ}
 use Rattle.sweep_model.specs.Sweep.{Progress, andThen, scanFrom}
 use Rattle.sweep_state.specs.code.Meet.{Workspace}
 use Rattle.sweep_state.specs.code.Words.{posed}
-use Rattle.sweep_state.specs.declared.end.End.{End}
+use Rattle.sweep_state.specs.declared.end.Ended as result
 use Rattle.sweep_state.specs.declared.task.Task.{Task}
 use Rattle.sweep_step.specs.code.Multiply.{Context}
 use Rattle.sweep_turn.specs.code.Scan.{Scans, scannedFrom}
@@ -83,8 +83,8 @@ module _
       })
 
   pub scan-stops :
-      (after : Workspace) {g : Going} {e : End} {u k n : ℕ} → v < t .count → g ≡ Ended e u k n → Visits t v used steps b after g
-      → Scans t from used₀ steps₀ b₀ after (Ended e u k n)
+      (after : Workspace) {g : Going} {r : result.Ended} → v < t .count → g ≡ Ended r → Visits t v used steps b after g
+      → Scans t from used₀ steps₀ b₀ after (Ended r)
   unfolding andThen
   scan-stops after h e visits = λ x o.
       let ended = subst (Visits t v used steps b after) e visits x (s .here x o) in

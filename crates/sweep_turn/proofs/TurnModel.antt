@@ -71,6 +71,6 @@ module _ (t : Task) (v used steps : ℕ) (b : Workspace) {stages : List ℕ} (e 
   open-ends (On more taken) s = λ x o.
       let r = scans-opened (On more taken) s x (open-scans o) in
       record { reached = open-follows o ∙ r .reached; rests = r .here }
-  open-ends (Ended f more taken added) s = λ x o.
-      let r = scans-opened (Ended f more taken added) s x (open-scans o) in
+  open-ends (Ended f) s = λ x o.
+      let r = scans-opened (Ended f) s x (open-scans o) in
       record { reached = open-follows o ∙ r .reached; closed = r .closed }

@@ -12,13 +12,14 @@ use Rattle.sweep_model.specs.State.{Problem, State, bare?, open?, stageOf}
 use Rattle.sweep_model.specs.code.Steady.{Scanning, Steady}
 use Rattle.sweep_model.specs.Sweep.{on, ready?, visit}
 use Rattle.sweep_model.specs.declared.Cause.the-variants.{Rows, Steps}
-use Rattle.sweep_state.specs.code.Ending.{Ends}
+use Rattle.sweep_state.specs.code.Ending.{Ends, endedWith}
 use Rattle.sweep_state.specs.code.Look.{progressOf}
 use Rattle.sweep_state.specs.code.Meet.{Workspace}
 use Rattle.sweep_state.specs.code.Settle.{stateOn}
 use Rattle.sweep_state.specs.code.Words.{posed}
 use Rattle.sweep_state.specs.declared.end.End.the-variants.{Undecided}
 use Rattle.sweep_state.specs.declared.end.End.{End}
+use Rattle.sweep_state.specs.declared.end.Ended as result
 use Rattle.sweep_state.specs.declared.end.Seen.the-variants.{Decided, Nothing}
 use Rattle.sweep_state.specs.declared.end.Seen.{Seen}
 use Rattle.sweep_state.specs.declared.task.Task.{Task}
@@ -139,18 +140,18 @@ module _ (t : Task) (v used steps : ℕ) (b : Workspace) (inside : v < t .count)
 
   -- What was seen ends the sweep.
   visit-seen :
-      r ≡ true → (after : Workspace) (s : Seen) (u k : ℕ) {i : End} → goingBy s u k ≡ Ended i u k 0 → Takes t v used steps b after (step.Looked s u k)
-      → (x : Context) → ScanOn t x v used steps b → Ends t (x .functions) (visited t x v used steps b) after u k 0 i
+      r ≡ true → (after : Workspace) (s : Seen) (u k : ℕ) {i : End} → goingBy s u k ≡ Ended (endedWith i u k 0) → Takes t v used steps b after (step.Looked s u k)
+      → (x : Context) → ScanOn t x v used steps b → Ends t (x .functions) (visited t x v used steps b) after (endedWith i u k 0)
   visit-seen e after s u k i took x h =
       let l = took x (ready-due h inside er e) in
       looked-ends s (l .represents) (visit-product e h ∙ l .reached) (l .refers) i
 
   -- A limit ends it.
   visit-short :
-      r ≡ true → (after : Workspace) (u k n : ℕ) (i : End)
-      → ((x : Context) → DueOn t x v used steps b → Ends t (x .functions) (multiplied t x v used steps b) after u k n i)
-      → (x : Context) → ScanOn t x v used steps b → Ends t (x .functions) (visited t x v used steps b) after u k n i
-  visit-short e after u k n i took x h =
+      r ≡ true → (after : Workspace) (i : result.Ended)
+      → ((x : Context) → DueOn t x v used steps b → Ends t (x .functions) (multiplied t x v used steps b) after i)
+      → (x : Context) → ScanOn t x v used steps b → Ends t (x .functions) (visited t x v used steps b) after i
+  visit-short e after i took x h =
       let l = took x (ready-due h inside er e) in
       record { reached = visit-product e h ∙ l .reached; closed = l .closed }
 
@@ -161,8 +162,8 @@ module _ (t : Task) (v used steps : ℕ) (b : Workspace) (inside : v < t .count)
       let l = took x (ready-due h inside er e) in
       let i = visit-product e h ∙ l .reached in
       record { reached = i; here = record { represents = l .represents; scanning = scan-next h inside i } }
-  visit-takes e after (step.Rows u k n) took = visit-short e after u k n (Undecided (Rows v)) took
-  visit-takes e after (step.Steps u k n) took = visit-short e after u k n (Undecided (Steps v)) took
+  visit-takes e after (step.Rows u k n) took = visit-short e after (endedWith (Undecided (Rows v)) u k n) took
+  visit-takes e after (step.Steps u k n) took = visit-short e after (endedWith (Undecided (Steps v)) u k n) took
 
   pub visit-went :
       r ≡ true → (after : Workspace) (o : Step) {g : Going} → g ≡ goingOf v o → Takes t v used steps b after o → Visits t v used steps b after g

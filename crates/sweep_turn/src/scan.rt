@@ -47,17 +47,7 @@ pub fn scan(
                 more = used;
                 taken = steps;
             }
-            Going::Ended {
-                end,
-                used,
-                steps,
-                added,
-            } => return Going::Ended {
-                end,
-                used,
-                steps,
-                added,
-            },
+            Going::Ended(ended) => return Going::Ended(ended),
         }
         v += 1;
     }

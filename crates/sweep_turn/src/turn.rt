@@ -83,17 +83,7 @@ pub fn go(
                         more = used;
                         taken = steps;
                     }
-                    Going::Ended {
-                        end,
-                        used,
-                        steps,
-                        added,
-                    } => return Going::Ended {
-                        end,
-                        used,
-                        steps,
-                        added,
-                    },
+                    Going::Ended(ended) => return Going::Ended(ended),
                 }
             }
             Picked::None => {

@@ -6,6 +6,7 @@ use sweep_graph::words::first_word;
 use sweep_graph::words::second_word;
 use sweep_model::Cause;
 use sweep_state::end::End;
+use sweep_state::end::Ended;
 use sweep_state::end::Seen;
 use sweep_state::task::Task;
 use sweep_step::multiply::Step;
@@ -18,18 +19,10 @@ ghost use Rattle.sweep_turn.specs.code.Visit.{ReadyAsked, ScanIn, Visits
 ghost use lib.ListN.{length};
 ghost use mathlib.Core.Path.{_≡_};
 
-// The sweep goes on or ends, with the rows then used and the steps taken; at its end also with the rows that a product which broke off had added.
+// The sweep goes on, with the rows then used and the steps taken, or has ended.
 pub enum Going {
-    On {
-        used: usize,
-        steps: usize,
-    },
-    Ended {
-        end: End,
-        used: usize,
-        steps: usize,
-        added: usize,
-    },
+    On { used: usize, steps: usize },
+    Ended(Ended),
 }
 
 fn operand_is_open(stages: &[u32], r: Literal) -> bool
@@ -60,12 +53,12 @@ pub fn after_look(seen: Seen, used: usize, steps: usize) -> Going
     ensures { λ r. ⌜ r ≡ goingBy seen used steps ⌝ }
 {
     match seen {
-        Seen::Decided(end) => Going::Ended {
+        Seen::Decided(end) => Going::Ended(Ended {
             end,
             used,
             steps,
             added: 0,
-        },
+        }),
         Seen::Nothing => Going::On { used, steps },
     }
 }
@@ -76,18 +69,18 @@ fn after_product(step: Step, v: u32) -> Going
 {
     match step {
         Step::Looked { seen, used, steps } => after_look(seen, used, steps),
-        Step::Rows { used, steps, added } => Going::Ended {
+        Step::Rows { used, steps, added } => Going::Ended(Ended {
             end: End::Undecided(Cause::Rows(v)),
             used,
             steps,
             added,
-        },
-        Step::Steps { used, steps, added } => Going::Ended {
+        }),
+        Step::Steps { used, steps, added } => Going::Ended(Ended {
             end: End::Undecided(Cause::Steps(v)),
             used,
             steps,
             added,
-        },
+        }),
     }
 }
 

@@ -21,7 +21,7 @@ answerBy t b r = record { verdict = verdictOf (b .arrays .rows) (t .inputs) (r .
 -- The model's answer is that of the end and the words.
 pub record SweepAnswers (t : Task) (functions : List Truth) (a : Result) (b : Workspace) (r : Ended) : Type 0 where
   pub answer : a ≡ answerBy t b r
-  pub closed : Closed t functions b (r .used) (r .steps) (r .added) (r .end)
+  pub closed : Closed t functions b r
 
 -- From the first turn on.
 abbrev pub Rests : Task → ℕ → ℕ → Workspace → Workspace → Ended → Type 0

@@ -4,7 +4,7 @@ use Rattle.sweep_model.specs.State.{State}
 use Rattle.sweep_model.specs.code.Steady.{Giving}
 use Rattle.sweep_model.specs.Sweep.{Progress, giveInputs, on}
 use Rattle.sweep_model.specs.declared.Cause.the-variants.{Rows}
-use Rattle.sweep_state.specs.code.Ending.{Ends}
+use Rattle.sweep_state.specs.code.Ending.{Ends, endedWith}
 use Rattle.sweep_state.specs.code.Meet.{workspace}
 use Rattle.sweep_state.specs.code.Represents.{Represents}
 use Rattle.sweep_state.specs.code.Arrays.{Arrays}
@@ -51,7 +51,7 @@ pub record AllGiven (t : Task) (x : InputContext) (a : Arrays) (used : ℕ) (b :
 
 -- "Rows with the vertex at which the row limit was passed". (RULES 7.3)
 abbrev pub ShortAt : Task → InputContext → Arrays → ℕ → Arrays → ℕ → ℕ → Type 0
-ShortAt t x a used b v more = Ends t (x .functions) (givingFrom t x a used 1) (workspace (x .pairs) b) more (x .steps) 0 (Undecided (Rows v))
+ShortAt t x a used b v more = Ends t (x .functions) (givingFrom t x a used 1) (workspace (x .pairs) b) (endedWith (Undecided (Rows v)) more (x .steps) 0)
 
 abbrev pub GivesRows : Task → Arrays → ℕ → Arrays → Inputs → Type 0
 GivesRows t a used b (All more) = (x : InputContext) → GivenTo t x a used 1 → AllGiven t x a used b more

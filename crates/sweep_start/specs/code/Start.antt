@@ -71,13 +71,12 @@ pub record GoneOn (t : Task) (functions : List Truth) (entry : List ℕ) (o : Pr
 abbrev pub GivesInputs : Task → Workspace → Workspace → Going → Type 0
 GivesInputs t b after (On used steps) =
     (functions : List Truth) (entry : List ℕ) → Prepared t functions entry b → GoneOn t functions entry (inputsGiven t functions b) after used steps
-GivesInputs t b after (Ended e used steps added) =
-    (functions : List Truth) (entry : List ℕ) → Prepared t functions entry b → Ends t functions (inputsGiven t functions b) after used steps added e
+GivesInputs t b after (Ended r) =
+    (functions : List Truth) (entry : List ℕ) → Prepared t functions entry b → Ends t functions (inputsGiven t functions b) after r
 
 -- Steps 1, 2, 3 and 5. (RULES 6.1, 6.2, 6.3, 6.5)
 abbrev pub Starts : Task → Workspace → Workspace → Going → Type 0
 Starts t b after (On used steps) =
     (functions : List Truth) → HasFunctions t functions (b .pairs)
     → GoneOn t functions (b .pairs) (start (posed t functions) (b .pairs)) after used steps
-Starts t b after (Ended e used steps added) =
-    (functions : List Truth) → HasFunctions t functions (b .pairs) → Ends t functions (start (posed t functions) (b .pairs)) after used steps added e
+Starts t b after (Ended r) = (functions : List Truth) → HasFunctions t functions (b .pairs) → Ends t functions (start (posed t functions) (b .pairs)) after r

@@ -3,7 +3,7 @@ use Prim.Native.Nat.{ℕ}
 use Rattle.sweep_model.specs.code.Steady.{Due}
 use Rattle.sweep_model.specs.Sweep.{Progress, multiply}
 use Rattle.sweep_model.specs.declared.Cause.the-variants.{Rows, Steps}
-use Rattle.sweep_state.specs.code.Ending.{Ends}
+use Rattle.sweep_state.specs.code.Ending.{Ends, endedWith}
 use Rattle.sweep_state.specs.code.Look.{SeenRefers, progressOf}
 use Rattle.sweep_state.specs.code.Meet.{Workspace}
 use Rattle.sweep_state.specs.code.Represents.{Represents}
@@ -57,6 +57,6 @@ Concludes t v reference used kept steps b after (step.Steps more taken added) = 
 abbrev pub Takes : Task → ℕ → ℕ → ℕ → Workspace → Workspace → Step → Type 0
 Takes t v used steps b after (step.Looked seen more taken) = (x : Context) → DueOn t x v used steps b → Looked t x v used steps b after seen more taken
 Takes t v used steps b after (step.Rows more taken added) =
-    (x : Context) → DueOn t x v used steps b → Ends t (x .functions) (multiplied t x v used steps b) after more taken added (Undecided (Rows v))
+    (x : Context) → DueOn t x v used steps b → Ends t (x .functions) (multiplied t x v used steps b) after (endedWith (Undecided (Rows v)) more taken added)
 Takes t v used steps b after (step.Steps more taken added) =
-    (x : Context) → DueOn t x v used steps b → Ends t (x .functions) (multiplied t x v used steps b) after more taken added (Undecided (Steps v))
+    (x : Context) → DueOn t x v used steps b → Ends t (x .functions) (multiplied t x v used steps b) after (endedWith (Undecided (Steps v)) more taken added)

@@ -23,5 +23,5 @@ pub record ScannedAll (t : Task) (x : Context) (from used steps : ℕ) (b after 
 
 abbrev pub Scans : Task → ℕ → ℕ → ℕ → Workspace → Workspace → Going → Type 0
 Scans t from used steps b after (On more taken) = (x : Context) → ScanOn t x from used steps b → ScannedAll t x from used steps b after more taken
-Scans t from used steps b after (Ended e more taken added) =
-    (x : Context) → ScanOn t x from used steps b → Ends t (x .functions) (scannedFrom t x from used steps b) after more taken added e
+Scans t from used steps b after (Ended r) =
+    (x : Context) → ScanOn t x from used steps b → Ends t (x .functions) (scannedFrom t x from used steps b) after r

@@ -53,8 +53,7 @@ pub record TurnTaken (t : Task) (x : Context) (v used steps : ℕ) (b after : Wo
 
 abbrev pub Opens : Task → ℕ → ℕ → ℕ → Workspace → Workspace → Going → Type 0
 Opens t v used steps b after (On more taken) = (x : Context) → OpenOn t x v used steps b → TurnTaken t x v used steps b after more taken
-Opens t v used steps b after (Ended e more taken added) =
-    (x : Context) → OpenOn t x v used steps b → Ends t (x .functions) (openedBy t x v used steps b) after more taken added e
+Opens t v used steps b after (Ended r) = (x : Context) → OpenOn t x v used steps b → Ends t (x .functions) (openedBy t x v used steps b) after r
 
 abbrev pub gone : Task → Context → ℕ → ℕ → Workspace → Progress
 gone t x used steps b = goFor (posed t (x .functions)) (x .turns) (stateOn t b used steps)
@@ -66,5 +65,4 @@ pub record Rested (t : Task) (x : Context) (used steps : ℕ) (b after : Workspa
 
 abbrev pub Goes : Task → ℕ → ℕ → Workspace → Workspace → Going → Type 0
 Goes t used steps b after (On more taken) = (x : Context) → RestOn t x used steps b → Rested t x used steps b after more taken
-Goes t used steps b after (Ended e more taken added) =
-    (x : Context) → RestOn t x used steps b → Ends t (x .functions) (gone t x used steps b) after more taken added e
+Goes t used steps b after (Ended r) = (x : Context) → RestOn t x used steps b → Ends t (x .functions) (gone t x used steps b) after r

@@ -7,7 +7,7 @@ use Rattle.sweep_model.specs.State.{bare?, open?}
 use Rattle.sweep_model.specs.code.Steady.{Scanning}
 use Rattle.sweep_model.specs.Sweep.{Progress, on, visit}
 use Rattle.sweep_model.specs.declared.Cause.the-variants.{Rows, Steps}
-use Rattle.sweep_state.specs.code.Ending.{Ends}
+use Rattle.sweep_state.specs.code.Ending.{Ends, endedWith}
 use Rattle.sweep_state.specs.code.Meet.{Workspace}
 use Rattle.sweep_state.specs.code.Represents.{Represents}
 use Rattle.sweep_state.specs.code.Settle.{onWorkspace, stateOn}
@@ -44,13 +44,13 @@ pub record ReadyAsked (v : ℕ) (pairs stages : List ℕ) : Type 0 where
 
 -- How the sweep goes on after what was seen, and after the product of vertex v.
 abbrev pub goingBy : Seen → ℕ → ℕ → Going
-goingBy (Decided e) u k = Ended e u k 0
+goingBy (Decided e) u k = Ended (endedWith e u k 0)
 goingBy Nothing u k = On u k
 
 abbrev pub goingOf : ℕ → Step → Going
 goingOf v (step.Looked seen u k) = goingBy seen u k
-goingOf v (step.Rows u k n) = Ended (Undecided (Rows v)) u k n
-goingOf v (step.Steps u k n) = Ended (Undecided (Steps v)) u k n
+goingOf v (step.Rows u k n) = Ended (endedWith (Undecided (Rows v)) u k n)
+goingOf v (step.Steps u k n) = Ended (endedWith (Undecided (Steps v)) u k n)
 
 -- The scan has come to vertex v.
 pub record ScanOn (t : Task) (x : Context) (v used steps : ℕ) (b : Workspace) : Type 0 where
@@ -72,5 +72,4 @@ pub record WentOn (t : Task) (x : Context) (v used steps : ℕ) (b after : Works
 
 abbrev pub Visits : Task → ℕ → ℕ → ℕ → Workspace → Workspace → Going → Type 0
 Visits t v used steps b after (On more taken) = (x : Context) → ScanOn t x v used steps b → WentOn t x v used steps b after more taken
-Visits t v used steps b after (Ended e more taken added) =
-    (x : Context) → ScanOn t x v used steps b → Ends t (x .functions) (visited t x v used steps b) after more taken added e
+Visits t v used steps b after (Ended r) = (x : Context) → ScanOn t x v used steps b → Ends t (x .functions) (visited t x v used steps b) after r
