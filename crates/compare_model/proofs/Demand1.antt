@@ -1,12 +1,14 @@
 -- Demand 1 for a comparison: a good call is not refused, and no other is answered.
 use Prim.Native.Nat.{_*_, ℕ}
-use Rattle.compare_model.proofs.RefusalLaws.{compared-answered, passed}
-use Rattle.compare_model.specs.Compare.{CompareRoom, Given, answerTo, answered, beyond?, callTests, compared, outside?, refusalOf, saidBy, shortSlice?, sliceWords}
+use Rattle.compare_model.proofs.ClaimLaws.{reply-says}
+use Rattle.compare_model.proofs.RefusalLaws.{passed}
+use Rattle.compare_model.proofs.Since.{since-loaded}
+use Rattle.compare_model.specs.Claims.{ReplySays}
+use Rattle.compare_model.specs.Compare.{CompareRoom, Given, beyond?, callTests, compared, outside?, refusalOf, shortSlice?, sliceWords}
 use Rattle.compare_model.specs.Demand1.{Answers, Good, says-different, says-equal, says-rows, says-size, says-steps}
 use Rattle.compare_model.specs.Passed.{Enough, LimitsWithin, Passed, Within}
+use Rattle.compare_model.specs.Said.{Said}
 use Rattle.sweep_model.specs.State.{Limits}
-use Rattle.sweep_model.specs.Sweep.{Verdict, different, equal, undecided}
-use Rattle.sweep_model.specs.declared.Cause.the-variants.{Rows, Size, Steps}
 use Rattle.table.proofs.AcceptedLaws.{accepts}
 use Rattle.table.proofs.FitsLaws.{accepted-fits, fits-accepted}
 use Rattle.table.proofs.RefusalLaws.{table-passed}
@@ -103,16 +105,16 @@ module _ (g : Given) where
   pub compare-accepts : Good g → refusalOf g ≡ 0
   compare-accepts h = passes (good-passed h)
 
-  -- It is answered by Equal, Different or Undecided.
+  -- It is answered by Equal, Different or Undecided: what is said of its reply says no refusal.
   pub compare-answers : Good g → Answers (compared g .reply)
-  unfolding answered saidBy
   compare-answers h =
-      rw (compared-answered g (compare-accepts h))
-      (said (answerTo g .verdict) (length (answerTo g .left .book .store)) (answerTo g .left .book .steps) (answerTo g .added))
+      let accepted = compare-accepts h in
+      answers (compared g .reply) (reply-says g accepted (since-loaded (passed g accepted .table)))
     where
-      said : (x : Verdict) (rows steps added : ℕ) → Answers (saidBy x rows steps added)
-      said equal rows steps added = says-equal
-      said (different s) rows steps added = says-different
-      said (undecided Size) rows steps added = says-size
-      said (undecided (Rows v)) rows steps added = says-rows
-      said (undecided (Steps v)) rows steps added = says-steps
+      answers : (x : Said) → ReplySays (g .table) g (compared g) x → Answers x
+      answers (Said.refused n) k = absurd k
+      answers (Said.equal rows steps added) k = says-equal
+      answers (Said.different rows steps added) k = says-different
+      answers (Said.size rows steps added) k = says-size
+      answers (Said.rows v rows steps added) k = says-rows
+      answers (Said.steps v rows steps added) k = says-steps

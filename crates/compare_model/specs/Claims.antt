@@ -59,7 +59,7 @@ pub record AfterSize (p : Problem) (marks rows : List ℕ) : Type 0 where
   pub mark : getD marks vertex 0 ≡ 2
   pub at-rest : AtRest (p .first) (length (p .functions)) marks rows rows
 
--- "After Equal, Different and Size, steps = the sum over ANDs marked 1 or 2.", "the rows added, 0 where none broke". (RULES 7.6, 7.11)
+-- Rows, steps and rows added "After Equal, Different and Size": no product broke, so the rows added are "0 where none broke". (RULES 7.5, 7.6, 7.11)
 pub record CountsSettled (loaded : List ℕ) (given : Given) (left : Left) (rows steps added : ℕ) : Type 0 where
   pub rows-kept : RowsKept loaded given left rows
   pub steps-kept : StepsKept loaded given left steps

@@ -28,7 +28,7 @@ use Rattle.truth.specs.Truth.{Truth, conj, constantly, invert, leaf}
 use lib.ListN.{getD, length, length-map}
 use mathlib.Core.Bool.{false, true}
 use mathlib.Core.List.{List, [], _++_, _∷_, map}
-use mathlib.Core.Path.{_∙_, _≡_, ap, ap₂, refl, subst₂, sym}
+use mathlib.Core.Path.{_∙_, _≡_, ap, refl, subst₂, sym}
 use native.Mathlib.Omega.{arith}
 
 getD-map : {A B : Type 0} (f : A → B) (xs : List A) (i : ℕ) (x : A) (z : B) → i < length xs → getD (map f xs) i z ≡ f (getD xs i x)

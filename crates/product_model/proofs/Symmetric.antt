@@ -1,11 +1,11 @@
 -- The order of the two functions does not matter to a run.
 use Prim.Native.Nat.{ℕ}
-use Rattle.product_model.specs.Run.{Book, Outcome, _andThen_, addRow, countStep, done, run, shortOfRows, shortOfSteps}
+use Rattle.product_model.specs.Run.{Book, Outcome, _andThen_, countStep, done, run, shortOfRows, shortOfSteps}
 use Rattle.truth.proofs.Steps.{terminal-symmetric}
 use Rattle.truth.proofs.Values.{conj-symmetric}
 use Rattle.truth.specs.Parts.{depends?}
 use Rattle.truth.specs.Steps.{terminal?}
-use Rattle.truth.specs.Truth.{Truth, conj, leaf, node}
+use Rattle.truth.specs.Truth.{Truth, leaf, node}
 use mathlib.Core.Bool.{_||_, cond, or-comm}
 use mathlib.Core.Path.{_≡_, ap₂, refl}
 

@@ -2,7 +2,7 @@
 use Prim.Native.Nat.{ℕ}
 use Rattle.aig.specs.Lookup.{firstWord, secondWord}
 use Rattle.product_model.proofs.SameRows.{SameOutcome, SameRows, both-rows, both-steps, run-same}
-use Rattle.product_model.specs.Run.{Book, Outcome, shortOfRows, shortOfSteps}
+use Rattle.product_model.specs.Run.{Book, Outcome}
 use Rattle.sweep_model.specs.Claims.{AfterRows, AfterSteps, BrokeAt, BrokeOff, at-and, at-input}
 use Rattle.sweep_model.specs.State.{Problem, literalFunction}
 use mathlib.Core.List.{List}

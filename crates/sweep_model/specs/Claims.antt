@@ -7,7 +7,7 @@ use Rattle.sweep_model.specs.State.{Problem, literalFunction}
 use Rattle.sweep_model.specs.Sweep.{Verdict, undecided}
 use Rattle.sweep_model.specs.declared.Cause.the-variants.{Rows, Steps}
 use Rattle.truth.specs.Distinct.{among}
-use Rattle.truth.specs.Parts.{allParts, alike?, together}
+use Rattle.truth.specs.Parts.{alike?, allParts, together}
 use Rattle.truth.specs.Steps.{steps}
 use Rattle.truth.specs.Truth.{Truth, conj}
 use lib.Dec.{eqb}
@@ -97,7 +97,7 @@ pub record AfterRows (p : Problem) (operands marks : List ℕ) (v rows steps add
   pub full : rows + added ≡ p .limits .rows
   pub broke : BrokeAt p operands marks v rows steps added
 
--- "After Steps, steps = the limit, and the sum with the vertex marked 3 exceeds it." (RULES 7.7, 7.11)
+-- "After Steps, steps = the limit, and the sum with the vertex marked 3 exceeds it.": that vertex's product broke off. (RULES 7.7, 7.11)
 pub record AfterSteps (p : Problem) (operands marks : List ℕ) (v rows steps added : ℕ) : Type 0 where
   pub over : p .limits .steps < stepsMarkedWithLast p operands marks
   pub full : steps ≡ p .limits .steps
