@@ -1,16 +1,15 @@
 -- Each reply of a comparison that is not refused keeps what the rules say of it: a law for each verdict of the sweep, and one for the marks.
 use Prim.Native.Nat.{ℕ}
 use Rattle.compare_model.proofs.RefusalLaws.{compared-answered}
-use Rattle.compare_model.proofs.ReplyLaws.{counts-replied, different-replied, equal-replied, marks-replied, rows-replied, rows-short, size-replied, steps-short}
+use Rattle.compare_model.proofs.ReplyLaws.{different-replied, equal-replied, marks-replied, rows-replied, size-replied, spent-replied}
 use Rattle.compare_model.proofs.Since.{Since}
-use Rattle.compare_model.specs.Claims.{CountsSettled, Differs, MarksKept, ReplySays, problemBy}
+use Rattle.compare_model.specs.Claims.{Differs, MarksKept, ReplySays, problemBy}
 use Rattle.compare_model.specs.Compare.{Given, Left, answerTo, answered, compared, refusalOf, saidBy, settingLeft}
 use Rattle.compare_model.specs.Said.{Named, Said}
 use Rattle.sweep_model.specs.Claims.{Names}
 use Rattle.sweep_model.specs.Sweep.{Verdict, different, equal, undecided}
 use Rattle.sweep_model.specs.declared.Cause.the-variants.{Rows, Size, Steps}
 use Rattle.truth.specs.Truth.{Setting}
-use lib.ListN.{length}
 use mathlib.Core.List.{List}
 use mathlib.Core.Path.{_≡_, refl, subst, sym}
 
@@ -23,28 +22,23 @@ module _ (g : Given) (h : refusalOf g ≡ 0) {loaded : List ℕ} (s : Since load
   abbrev saidAt : Verdict → Said
   saidAt x = answered g (record { verdict = x; added = answerTo g .added; left = answerTo g .left }) .reply
 
-  -- Rows, steps and rows added, unless by Rows or Steps.
-  settled : {x : Verdict} → answerTo g .verdict ≡ x → ((v : ℕ) → Names x v → ⊥)
-      → CountsSettled loaded g left (length (answerTo g .left .book .store)) (answerTo g .left .book .steps) (answerTo g .added)
-  settled k none = counts-replied g h s (λ v n. none v (subst (λ (y : Verdict). Names y v) k n))
-
   -- Equal is said only where the two sides agree on every setting.
   equal-says : answerTo g .verdict ≡ equal → ReplySays loaded g left (saidAt equal)
   unfolding answered saidBy
-  equal-says k = (equal-replied g h s k, settled k (λ v n. elim n [ ]))
+  equal-says k = (equal-replied g h s k, record { rows-kept = rows-replied g h s; settled = spent-replied g h s equal k })
 
   -- Different is said only with the first setting on which the two sides disagree, written to the front of the setting slice.
   different-says : (t : Setting) → answerTo g .verdict ≡ different t → ReplySays loaded g left (saidAt (different t))
   unfolding answered saidBy settingLeft
   different-says t k = (
     subst (λ (x : Verdict). Differs loaded (g .output) (g .setting) (settingLeft x (g .setting))) (sym k) (different-replied g h s t k),
-    settled k (λ v n. elim n [ ]),
+    record { rows-kept = rows-replied g h s; settled = spent-replied g h s (different t) k },
   )
 
   -- Size is said only where some AND is marked 2 and the sweep is at rest.
   size-says : answerTo g .verdict ≡ undecided Size → ReplySays loaded g left (saidAt (undecided Size))
   unfolding answered saidBy
-  size-says k = (size-replied g h s k, settled k (λ v n. elim n [ ]))
+  size-says k = (size-replied g h s k, record { rows-kept = rows-replied g h s; settled = spent-replied g h s (undecided Size) k })
 
   -- A mark 3 stands at the vertex that is named, and the other marks mean what they say.
   marks-say : (x : Verdict) → answerTo g .verdict ≡ x → MarksKept (problemBy loaded g) (left .marks) (saidAt x)
@@ -65,12 +59,12 @@ module _ (g : Given) (h : refusalOf g ≡ 0) {loaded : List ℕ} (s : Since load
   -- Rows is said only where the functions marked 1 or 3 have more parts than the row limit, with what the product that broke off used.
   rows-says : (v : ℕ) → answerTo g .verdict ≡ undecided (Rows v) → ReplySays loaded g left (saidAt (undecided (Rows v)))
   unfolding answered saidBy
-  rows-says v k = (rows-short g h s v k, rows-replied g h s)
+  rows-says v k = (spent-replied g h s (undecided (Rows v)) k, rows-replied g h s)
 
   -- Steps is said only where the steps are the limit and with the vertex marked 3 there are more, and so of its product.
   steps-says : (v : ℕ) → answerTo g .verdict ≡ undecided (Steps v) → ReplySays loaded g left (saidAt (undecided (Steps v)))
   unfolding answered saidBy
-  steps-says v k = (steps-short g h s v k, rows-replied g h s)
+  steps-says v k = (spent-replied g h s (undecided (Steps v)) k, rows-replied g h s)
 
   -- Whatever the verdict, what is said of it holds.
   verdict-says : (x : Verdict) → answerTo g .verdict ≡ x → ReplySays loaded g left (saidAt x)

@@ -5,20 +5,21 @@ use Rattle.compare_model.proofs.GraphLaws.{count-vertices, left-literal
 use Rattle.compare_model.proofs.RefusalLaws.{passed}
 use Rattle.compare_model.proofs.RestLaws.{rest-alike}
 use Rattle.compare_model.proofs.Since.{Since, given-fits, given-rows, since-value}
-use Rattle.compare_model.specs.Claims.{AfterSize, Agrees, CountsSettled, Differs, MarksKept, RowsKept, RowsSay, StepsSay, problemBy}
+use Rattle.compare_model.specs.Claims.{AfterSize, Agrees, Differs, MarksKept, RowsKept, problemBy}
 use Rattle.compare_model.specs.Compare.{Given, answerTo, answered, graphWords, overFront, problemOf, refusalOf, settingBytes}
 use Rattle.compare_model.specs.Said.{Named, Said}
 use Rattle.product_model.specs.Run.{Book, Outcome, run}
 use Rattle.sweep_model.proofs.AfterRest.{after-rest}
 use Rattle.sweep_model.proofs.Kept.{pair-runs, pair-steps}
 use Rattle.sweep_model.proofs.Marked.{andAt, ands-at, ands-length}
-use Rattle.sweep_model.proofs.ReplyLaws.{after-rows, after-steps, constant-mark, counts-settled, mark-known, marked-unmerged, marks-long, one-small, rows-counted, size-some, three-named, two-large, two-made}
+use Rattle.sweep_model.proofs.Replies.{Spent}
+use Rattle.sweep_model.proofs.ReplyLaws.{constant-mark, mark-known, marked-unmerged, marks-long, one-small, rows-counted, size-some, sweep-spent, three-named, two-large, two-made}
 use Rattle.sweep_model.proofs.Right.{different-right, equal-right}
-use Rattle.sweep_model.specs.Claims.{And, BrokeAt, BrokeOff, Names, andSteps, andsFrom, andsOf, at-and, at-input, by-rows, by-steps, is, isEither, marked, sum}
+use Rattle.sweep_model.specs.Claims.{And, BrokeAt, BrokeOff, Names, Settled, andSteps, andsFrom, andsOf, at-and, at-input, by-rows, by-steps, is, isEither, marked, sum}
 use Rattle.sweep_model.specs.Fit.{vertexCount}
 use Rattle.sweep_model.specs.Normalise.{merged?}
 use Rattle.sweep_model.specs.State.{Problem, functionOf, literalFunction}
-use Rattle.sweep_model.specs.Sweep.{different, equal, undecided}
+use Rattle.sweep_model.specs.Sweep.{Verdict, different, equal, undecided}
 use Rattle.sweep_model.specs.declared.Cause.the-variants.{Rows, Size, Steps}
 use Rattle.table.proofs.FunctionLaws.{value-output}
 use Rattle.table.specs.Table.{graphOf, inputsOf, outputFunction, outputValue, verticesOf}
@@ -192,14 +193,6 @@ module _ (g : Given) (h : refusalOf g ≡ 0) {loaded : List ℕ} (s : Since load
   unfolding answerTo
   rows-replied = rows-counted (given-fits g h) ∙ ap together (functions-marked (is 1))
 
-  -- Where the verdict names no vertex, the steps are those of the ANDs marked 1 or 2, and no rows are added.
-  pub counts-replied : ((v : ℕ) → Names (answerTo g .verdict) v → ⊥)
-      → CountsSettled loaded g (answered g (answerTo g)) (length (answerTo g .left .book .store)) (answerTo g .left .book .steps) (answerTo g .added)
-  unfolding answerTo
-  counts-replied unnamed =
-      let x = counts-settled (given-fits g h) unnamed in
-      record { rows-kept = rows-replied; steps-kept = x .0 ∙ steps-marked (isEither 1 2) refl; none-added = x .1 }
-
   -- On a setting the two literals' functions have the output's values on the two sides of the table as loaded.
   same-value : (side : ℕ) (t : Setting) → length t ≡ inputsOf loaded
       → valueAt (outputFunction (graphOf (g .table)) side (g .output)) t ≡ outputValue (graphOf loaded) side (g .output) t
@@ -260,6 +253,11 @@ module _ (g : Given) (h : refusalOf g ≡ 0) {loaded : List ℕ} (s : Since load
     λ x. three-named (given-fits g h) v .1 (mark-written v (x .0) ∙ x .1),
   )
 
+  settled-replied :
+      {steps added : ℕ} → Settled (problemBy (g .table) g) (graphWords (g .table)) (answerTo g .left .marks) steps added
+      → Settled (problemBy loaded g) (graphWords loaded) (answered g (answerTo g) .marks) steps added
+  settled-replied k = record { summed = k .summed ∙ steps-marked (isEither 1 2) refl; none-added = k .none-added }
+
   -- What is said of a product that broke off is said of it with the operands as loaded.
   broke-replied :
       {short : Book → Outcome} {v rows steps added : ℕ} → Names (answerTo g .verdict) v
@@ -291,29 +289,36 @@ module _ (g : Given) (h : refusalOf g ≡ 0) {loaded : List ℕ} (s : Since load
   broke-at n (at-and x) = at-and (broke-replied n x)
   broke-at n (at-input l e z) = at-input (omega (arith, l, same-first)) e z
 
-  -- What is said after Rows,
-  pub rows-short : (v : ℕ) → answerTo g .verdict ≡ undecided (Rows v)
-      → RowsSay loaded g (answered g (answerTo g)) v (length (answerTo g .left .book .store)) (answerTo g .left .book .steps) (answerTo g .added)
-  unfolding answerTo problemOf
-  rows-short v e =
-      let x = after-rows (given-fits g h) v e in
+  -- What is said of rows, steps and rows added at a verdict is said of it with the functions and operands as loaded.
+  spent-alike :
+      (rows steps added : ℕ) (x : Verdict) → ((v : ℕ) → Names x v → Names (answerTo g .verdict) v)
+      → Spent (problemBy (g .table) g) (graphWords (g .table)) (answerTo g .left .marks) x rows steps added
+      → Spent (problemBy loaded g) (graphWords loaded) (answered g (answerTo g) .marks) x rows steps added
+  unfolding problemOf
+  spent-alike rows steps added equal n k = settled-replied k
+  spent-alike rows steps added (different t) n k = settled-replied k
+  spent-alike rows steps added (undecided Size) n k = settled-replied k
+  spent-alike rows steps added (undecided (Rows v)) n k =
       record {
-        over = subst (λ (n : ℕ). here .limits .rows < n) (ap together (functions-marked (isEither 1 3))) (x .over);
-        full = x .full;
-        broke = broke-at (rw e by-rows) (x .broke);
+        over = subst (λ (m : ℕ). here .limits .rows < m) (ap together (functions-marked (isEither 1 3))) (k .over);
+        full = k .full;
+        broke = broke-at (n v by-rows) (k .broke);
+      }
+  spent-alike rows steps added (undecided (Steps v)) n k =
+      record {
+        over = subst (λ (m : ℕ). here .limits .steps < m) (steps-marked (λ m. isEither 1 2 m || is 3 m) refl) (k .over);
+        full = k .full;
+        broke = broke-replied (n v by-steps) (k .broke);
       }
 
-  -- and after Steps.
-  pub steps-short : (v : ℕ) → answerTo g .verdict ≡ undecided (Steps v)
-      → StepsSay loaded g (answered g (answerTo g)) v (length (answerTo g .left .book .store)) (answerTo g .left .book .steps) (answerTo g .added)
-  unfolding answerTo problemOf
-  steps-short v e =
-      let x = after-steps (given-fits g h) v e in
-      record {
-        over = subst (λ (n : ℕ). here .limits .steps < n) (steps-marked (λ m. isEither 1 2 m || is 3 m) refl) (x .over);
-        full = x .full;
-        broke = broke-replied (rw e by-steps) (x .broke);
-      }
+  -- What the verdict says of rows, steps and rows added.
+  pub spent-replied : (x : Verdict) → answerTo g .verdict ≡ x
+      → Spent (problemBy loaded g) (graphWords loaded) (answered g (answerTo g) .marks) x (length (answerTo g .left .book .store))
+      (answerTo g .left .book .steps) (answerTo g .added)
+  unfolding answerTo
+  spent-replied x e =
+      spent-alike (length (answerTo g .left .book .store)) (answerTo g .left .book .steps) (answerTo g .added) x (λ v n. rw e n)
+      (rw e at (sweep-spent (given-fits g h)))
 
   -- What the marks mean, where the same vertices are named.
   pub marks-replied : (x : Said) → ((v : ℕ) → Named x v ↔ Names (answerTo g .verdict) v)

@@ -3,7 +3,7 @@
 use Prim.Native.Nat.{_<_, _≤_, ℕ}
 use Rattle.compare_model.specs.Compare.{Given, Left, graphWords, overFront, problemOf, settingBytes}
 use Rattle.compare_model.specs.Said.{Named, Said}
-use Rattle.sweep_model.specs.Claims.{AfterRows, AfterSteps, AtRest, rowsMarked, stepsMarked}
+use Rattle.sweep_model.specs.Claims.{AfterRows, AfterSteps, AtRest, Settled, rowsMarked}
 use Rattle.sweep_model.specs.State.{Problem, functionOf}
 use Rattle.table.specs.Table.{graphOf, inputsOf, outputValue}
 use Rattle.truth.specs.Parts.{size}
@@ -23,9 +23,10 @@ problemBy table given = problemOf table (given .output) (given .limits)
 abbrev pub RowsKept : List ℕ → Given → Left → ℕ → Type 0
 RowsKept loaded given left rows = rows ≡ rowsMarked (problemBy loaded given) (left .marks)
 
--- "After Equal, Different and Size, steps = the sum over ANDs marked 1 or 2." (RULES 7.6)
-abbrev pub StepsKept : List ℕ → Given → Left → ℕ → Type 0
-StepsKept loaded given left steps = steps ≡ stepsMarked (problemBy loaded given) (graphWords loaded) (left .marks)
+-- "After Equal, Different and Size, steps = the sum over ANDs marked 1 or 2.", and the rows added are "0 where none broke". (RULES 7.5, 7.6, 7.11)
+pub record CountsKept (loaded : List ℕ) (given : Given) (left : Left) (rows steps added : ℕ) : Type 0 where
+  pub rows-kept : RowsKept loaded given left rows
+  pub settled : Settled (problemBy loaded given) (graphWords loaded) (left .marks) steps added
 
 -- "Equal is said only where two outputs agree on every setting": output k of a table's two sides. (RULES 12.2)
 abbrev pub Agrees : List ℕ → ℕ → Type 0
@@ -59,26 +60,16 @@ pub record AfterSize (p : Problem) (marks rows : List ℕ) : Type 0 where
   pub mark : getD marks vertex 0 ≡ 2
   pub at-rest : AtRest (p .first) (length (p .functions)) marks rows rows
 
--- Rows, steps and rows added "After Equal, Different and Size": no product broke, so the rows added are "0 where none broke". (RULES 7.5, 7.6, 7.11)
-pub record CountsSettled (loaded : List ℕ) (given : Given) (left : Left) (rows steps added : ℕ) : Type 0 where
-  pub rows-kept : RowsKept loaded given left rows
-  pub steps-kept : StepsKept loaded given left steps
-  pub none-added : added ≡ 0
-
--- What is said after Rows and after Steps, the functions and operands those of the table as loaded. (RULES 7.7, 7.8, 7.11)
-abbrev pub RowsSay : List ℕ → Given → Left → ℕ → ℕ → ℕ → ℕ → Type 0
-RowsSay loaded given left v rows steps added = AfterRows (problemBy loaded given) (graphWords loaded) (left .marks) v rows steps added
-
-abbrev pub StepsSay : List ℕ → Given → Left → ℕ → ℕ → ℕ → ℕ → Type 0
-StepsSay loaded given left v rows steps added = AfterSteps (problemBy loaded given) (graphWords loaded) (left .marks) v rows steps added
-
--- What is said of each reply of a comparison that is not refused, beside its marks. It says no refusal. (RULES 7.5 to 7.11)
+-- What is said of each reply of a comparison that is not refused, beside its marks, the functions and operands those of the table as loaded. It
+-- says no refusal. (RULES 7.5 to 7.11)
 abbrev pub ReplySays : List ℕ → Given → Left → Said → Type 0
 ReplySays loaded given left (Said.refused n) = ⊥
-ReplySays loaded given left (Said.equal rows steps added) = Agrees loaded (given .output) × CountsSettled loaded given left rows steps added
+ReplySays loaded given left (Said.equal rows steps added) = Agrees loaded (given .output) × CountsKept loaded given left rows steps added
 ReplySays loaded given left (Said.different rows steps added) =
-    Differs loaded (given .output) (given .setting) (left .setting) × CountsSettled loaded given left rows steps added
+    Differs loaded (given .output) (given .setting) (left .setting) × CountsKept loaded given left rows steps added
 ReplySays loaded given left (Said.size rows steps added) =
-    AfterSize (problemBy loaded given) (left .marks) (graphWords (left .table)) × CountsSettled loaded given left rows steps added
-ReplySays loaded given left (Said.rows v rows steps added) = RowsSay loaded given left v rows steps added × RowsKept loaded given left rows
-ReplySays loaded given left (Said.steps v rows steps added) = StepsSay loaded given left v rows steps added × RowsKept loaded given left rows
+    AfterSize (problemBy loaded given) (left .marks) (graphWords (left .table)) × CountsKept loaded given left rows steps added
+ReplySays loaded given left (Said.rows v rows steps added) =
+    AfterRows (problemBy loaded given) (graphWords loaded) (left .marks) v rows steps added × RowsKept loaded given left rows
+ReplySays loaded given left (Said.steps v rows steps added) =
+    AfterSteps (problemBy loaded given) (graphWords loaded) (left .marks) v rows steps added × RowsKept loaded given left rows

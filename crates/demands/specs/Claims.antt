@@ -1,6 +1,6 @@
 -- What the rules claim of a comparison's reply, in terms of the files, the table as loaded, and what the comparison left. (RULES 12.3)
 use Prim.Native.Nat.{_+_, _<_, ℕ}
-use Rattle.compare_model.specs.Claims.{CountsSettled, RowsKept}
+use Rattle.compare_model.specs.Claims.{CountsKept, RowsKept}
 use Rattle.compare_model.specs.Compare.{Given, Left, refusalOf, settingBytes}
 use Rattle.compare_model.specs.Said.{Said}
 use Rattle.netlist_model.specs.Meaning.{fileAnds, fileValue}
@@ -58,11 +58,11 @@ abbrev pub ReplyKept : Netlist → Netlist → List ℕ → Given → Left → S
 ReplyKept d e loaded given left (Said.refused n) =
     (refusalOf given ≡ n) × (n ≢ 0) × (left .table ≡ given .table) × (left .marks ≡ given .marks) × (left .setting ≡ given .setting)
 ReplyKept d e loaded given left (Said.equal rows steps added) =
-    (refusalOf given ≡ 0) × Agree d e (given .output) × CountsSettled loaded given left rows steps added
+    (refusalOf given ≡ 0) × Agree d e (given .output) × CountsKept loaded given left rows steps added
 ReplyKept d e loaded given left (Said.different rows steps added) =
-    (refusalOf given ≡ 0) × Separated d e (given .output) (given .setting) (left .setting) × CountsSettled loaded given left rows steps added
+    (refusalOf given ≡ 0) × Separated d e (given .output) (given .setting) (left .setting) × CountsKept loaded given left rows steps added
 ReplyKept d e loaded given left (Said.size rows steps added) =
-    (refusalOf given ≡ 0) × TooLarge d e (given .limits .size) × CountsSettled loaded given left rows steps added
+    (refusalOf given ≡ 0) × TooLarge d e (given .limits .size) × CountsKept loaded given left rows steps added
 ReplyKept d e loaded given left (Said.rows v rows steps added) =
     (refusalOf given ≡ 0) × TooManyParts d e (given .limits .rows) × RowsKept loaded given left rows × (rows + added ≡ given .limits .rows)
 ReplyKept d e loaded given left (Said.steps v rows steps added) =

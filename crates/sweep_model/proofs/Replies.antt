@@ -16,7 +16,7 @@ use Rattle.sweep_model.proofs.Reachable.{begin-reachable, dropped-reach
 use Rattle.sweep_model.proofs.Stages.{bare-lacks}
 use Rattle.sweep_model.proofs.Steady.{due-within, inputRow}
 use Rattle.sweep_model.proofs.Tidy.{first-unmerged}
-use Rattle.sweep_model.specs.Claims.{AfterRows, AfterSteps, And, BrokeOff, Names, andSteps, andsOf, at-and, at-input, by-rows, by-steps, is, isEither, marked, rowsMarkedWithLast, stepsMarked, stepsMarkedWithLast, sum}
+use Rattle.sweep_model.specs.Claims.{AfterRows, AfterSteps, And, BrokeOff, Names, Settled, andSteps, andsOf, at-and, at-input, by-rows, by-steps, is, isEither, marked, rowsMarkedWithLast, stepsMarked, stepsMarkedWithLast, sum}
 use Rattle.sweep_model.specs.Fit.{Fit, vertexCount}
 use Rattle.sweep_model.specs.Normalise.{wasMerged?}
 use Rattle.sweep_model.specs.code.Reachable.{Accounted, AllStored, Apart, InputsMarked, MarkFits, Reachable, StageFits}
@@ -41,17 +41,19 @@ use mathlib.Core.Path.{_∙_, _≡_, ap, refl, sym}
 use native.Mathlib.Decide.{decLt, ℕ-discrete}
 use native.Mathlib.Omega.{arith}
 
--- What a verdict says of rows, steps and rows added: the steps of the ANDs marked 1 or 2, and none added; or what is said after Rows or Steps.
-pub data Spent (p : Problem) (entry marks : List ℕ) (book : Book) (added : ℕ) : Verdict → Type 0 where
-  in-full : {x : Verdict} → ((v : ℕ) → Names x v → ⊥) → book .steps ≡ stepsMarked p entry marks → added ≡ 0 → Spent p entry marks book added x
-  no-row : {v : ℕ} → AfterRows p entry marks v (length (book .store)) (book .steps) added → Spent p entry marks book added (undecided (Rows v))
-  no-step : {v : ℕ} → AfterSteps p entry marks v (length (book .store)) (book .steps) added → Spent p entry marks book added (undecided (Steps v))
+-- What a verdict says of rows, steps and rows added.
+abbrev pub Spent : Problem → List ℕ → List ℕ → Verdict → ℕ → ℕ → ℕ → Type 0
+Spent p operands marks equal rows steps added = Settled p operands marks steps added
+Spent p operands marks (different s) rows steps added = Settled p operands marks steps added
+Spent p operands marks (undecided Size) rows steps added = Settled p operands marks steps added
+Spent p operands marks (undecided (Rows v)) rows steps added = AfterRows p operands marks v rows steps added
+Spent p operands marks (undecided (Steps v)) rows steps added = AfterSteps p operands marks v rows steps added
 
 -- What holds of a verdict, of the rows added and of the state that is left.
 pub record Ended (p : Problem) (entry : List ℕ) (x : Verdict) (added : ℕ) (s : State) : Type 0 where
   pub proper : Proper (p .limits .rows) (p .limits .steps) (s .book)
   pub holds : HoldsParts (s .book) (marked (is 1) (s .marks) (p .functions))
-  pub spent : Spent p entry (s .marks) (s .book) added x
+  pub spent : Spent p entry (s .marks) x (length (s .book .store)) (s .book .steps) added
   pub stored : AllStored p (s .stages) (s .book .store)
   pub apart : Apart p (s .stages)
   pub fits : (v : ℕ) → MarkFits p entry v (getD (s .marks) v 0)
@@ -112,6 +114,15 @@ module _ {p : Problem} {entry marks : List ℕ} {book : Book} (a : Accounted p e
             (ands-put p entry (λ m. isEither 1 2 m || is 3 m) marks long v 3 made (ap (λ m. isEither 1 2 m || is 3 m) unmarked) within refl),
       )
 
+-- What is said where no product broke, of every verdict that names no vertex.
+settled-spent : {p : Problem} {entry marks : List ℕ} {steps added : ℕ} (rows : ℕ) (x : Verdict) → ((v : ℕ) → Names x v → ⊥) → Settled p entry marks steps added
+    → Spent p entry marks x rows steps added
+settled-spent rows equal n k = k
+settled-spent rows (different t) n k = k
+settled-spent rows (undecided Size) n k = k
+settled-spent rows (undecided (Rows v)) n k = absurd (n v by-rows)
+settled-spent rows (undecided (Steps v)) n k = absurd (n v by-steps)
+
 module _ {p : Problem} {entry : List ℕ} where
   -- A verdict that names no vertex.
   settled :
@@ -122,7 +133,7 @@ module _ {p : Problem} {entry : List ℕ} where
       record {
         proper = r .accounted .proper;
         holds = r .accounted .holds;
-        spent = in-full nameless (r .accounted .steps) refl;
+        spent = settled-spent (length (s .book .store)) x nameless (record { summed = r .accounted .steps; none-added = refl });
         stored = r .stored;
         apart = r .apart;
         fits = r .accounted .fits;
@@ -149,7 +160,7 @@ module _ {p : Problem} {entry : List ℕ} where
 
     named :
         (x : Verdict) (steps added : ℕ) → Names x v → (p .first ≤ v → InputsMarked p (set (s .marks) v 3)) → steps ≤ p .limits .steps
-        → Spent p entry (set (s .marks) v 3) (record { store = s .book .store; steps = steps }) added x
+        → Spent p entry (set (s .marks) v 3) x (length (s .book .store)) steps added
         → ((c : Cause) → x ≡ undecided c → ((v : ℕ) → c ≡ Rows v → p .first ≤ v) → InputsMarked p (set (s .marks) v 3))
         → Ended p entry x added (withMark v 3 (withBook (record { store = s .book .store; steps = steps }) s))
     named x steps added n made few spent all =
@@ -226,12 +237,11 @@ module _ {p : Problem} {entry : List ℕ} (fit : Fit p entry) where
     row-ends b e =
         named s r v (due-within due) (due-nonzero fit due r) (due .is-bare) (due-entry fit due r) (undecided (Rows v)) (b .steps) (addedTo (s .book) b)
         by-rows (λ l. due-inputs fit due r 3) (R .grown .proper .taken)
-        (no-row
         (record {
           over = rw (← (last-rows (r .accounted) (r .steady .marked) v (due-within due) (due-unmarked fit due r))) (rows-together (functionOf p v) (r .accounted .holds) R);
           full = omega (arith, grown-length (R .grown), R .full);
           broke = at-and (broke-off shortOfRows b e (R .grown));
-        }))
+        })
         (λ c i h. due-inputs fit due r 3)
       where
         R : ShortOfRows (p .limits .rows) (p .limits .steps) (parts (functionOf p v)) 1 (andSteps (andAt p entry v)) (s .book) b
@@ -244,12 +254,11 @@ module _ {p : Problem} {entry : List ℕ} (fit : Fit p entry) where
     step-ends b e =
         named s r v (due-within due) (due-nonzero fit due r) (due .is-bare) (due-entry fit due r) (undecided (Steps v)) (b .steps) (addedTo (s .book) b)
         by-steps (λ l. due-inputs fit due r 3) (S .grown .proper .taken)
-        (no-step
         (record {
           over = rw (last-steps (r .accounted) (r .steady .marked) v (due-within due) (due-unmarked fit due r) (due .made)) (S .over);
           full = S .full;
           broke = broke-off shortOfSteps b e (S .grown);
-        }))
+        })
         (λ c i h. due-inputs fit due r 3)
       where
         S : ShortOfSteps (p .limits .rows) (p .limits .steps) (parts (functionOf p v)) (andSteps (andAt p entry v)) (s .book) b
@@ -263,12 +272,11 @@ module _ {p : Problem} {entry : List ℕ} (fit : Fit p entry) where
   input-ends v b s g l h e r =
       named s r v within (λ i. omega arith) is-bare (first-unmerged (p .first) entry v h) (undecided (Rows v)) (s .book .steps) 0 by-rows
       (λ l. absurd (omega arith)) (r .accounted .proper .taken)
-      (no-row
       (record {
         over = rw (← (last-rows (r .accounted) (r .steady .marked) v within unmarked)) (rows-together (functionOf p v) (r .accounted .holds) R);
         full = omega (arith, r .accounted .proper .rows, add-short (p .limits .rows) (topPart (functionOf p v)) (s .book) e);
         broke = at-input h (r .accounted .steps ∙ no-steps) refl;
-      }))
+      })
       (λ c i k. let j : c ≡ Rows v = cc in absurd (omega (arith, k v j)))
     where
       within : v < vertexCount p

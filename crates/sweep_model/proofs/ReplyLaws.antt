@@ -9,17 +9,17 @@ use Rattle.sweep_model.proofs.Induction.{sweep-keeps}
 use Rattle.sweep_model.proofs.Inputs.{own-part, part-own}
 use Rattle.sweep_model.proofs.Kept.{sweep-steady}
 use Rattle.sweep_model.proofs.Marked.{chosenFrom, marked-chosen, marked-part, sum-sublist, together-sublist}
-use Rattle.sweep_model.proofs.Replies.{Ended, Spent, in-full, marked-stored, no-row, no-step, reachable-keeps}
+use Rattle.sweep_model.proofs.Replies.{Ended, Spent, marked-stored, reachable-keeps}
 use Rattle.sweep_model.proofs.SomeDropped.{rest-dropped, sweep-rests}
 use Rattle.sweep_model.proofs.Stages.{has-not-gone}
 use Rattle.sweep_model.proofs.Steady.{alive-within}
 use Rattle.sweep_model.proofs.Tidy.{made-merged}
-use Rattle.sweep_model.specs.Claims.{AfterRows, AfterSteps, And, Names, andSteps, andsOf, by-rows, by-steps, is, isEither, marked, rowsMarked, rowsMarkedWithLast, stepsMarked, stepsMarkedWithLast, sum}
+use Rattle.sweep_model.specs.Claims.{And, Names, andSteps, andsOf, is, isEither, marked, rowsMarked, rowsMarkedWithLast, stepsMarkedWithLast, sum}
 use Rattle.sweep_model.specs.Fit.{Fit, vertexCount}
 use Rattle.sweep_model.specs.Normalise.{merged?, wasMerged?}
 use Rattle.sweep_model.specs.code.Reachable.{InputsMarked}
 use Rattle.sweep_model.specs.State.{Problem, State, functionOf, has?, stageOf}
-use Rattle.sweep_model.specs.Sweep.{Verdict, sweep, undecided}
+use Rattle.sweep_model.specs.Sweep.{sweep, undecided}
 use Rattle.sweep_model.specs.declared.Cause.the-variants.{Rows, Size, Steps}
 use Rattle.sweep_model.specs.declared.Cause.{Cause}
 use Rattle.truth.proofs.Booleans.{clash}
@@ -172,47 +172,14 @@ module _ {p : Problem} {entry : List ℕ} (fit : Fit p entry) where
   pub rows-within : length (leftBy p entry .book .store) ≤ p .limits .rows
   rows-within = sweep-ended .proper .rows
 
-  -- What the verdict says of rows, steps and rows added.
-  abbrev SpentHere : Verdict → Type 0
-  SpentHere x = Spent p entry (leftBy p entry .marks) (leftBy p entry .book) (sweep p entry .added) x
+  -- What the verdict says of rows, steps and rows added, the operands by the entry rows.
+  pub sweep-spent :
+      Spent p entry (leftBy p entry .marks) (sweep p entry .verdict) (length (leftBy p entry .book .store)) (leftBy p entry .book .steps) (sweep p entry .added)
+  sweep-spent = sweep-ended .spent
 
-  -- Where the verdict names no vertex, steps are those of the ANDs marked 1 or 2, and no rows are added.
-  pub counts-settled :
-      ((v : ℕ) → Names (sweep p entry .verdict) v → ⊥)
-      → (leftBy p entry .book .steps ≡ stepsMarked p entry (leftBy p entry .marks)) × (sweep p entry .added ≡ 0)
-  counts-settled unnamed = go (sweep-ended .spent) unnamed
-    where
-      go : {x : Verdict} → SpentHere x → ((v : ℕ) → Names x v → ⊥)
-          → (leftBy p entry .book .steps ≡ stepsMarked p entry (leftBy p entry .marks)) × (sweep p entry .added ≡ 0)
-      go (in-full n e z) u = (e, z)
-      go (no-row {v = v} h) u = absurd (u v by-rows)
-      go (no-step {v = v} h) u = absurd (u v by-steps)
-
-  -- They are within the limit.
+  -- Steps are within the limit.
   pub steps-within : leftBy p entry .book .steps ≤ p .limits .steps
   steps-within = sweep-ended .proper .taken
-
-  -- What is said after Rows, the operands by the entry rows.
-  pub after-rows :
-      (v : ℕ) → sweep p entry .verdict ≡ undecided (Rows v)
-      → AfterRows p entry (leftBy p entry .marks) v (length (leftBy p entry .book .store)) (leftBy p entry .book .steps) (sweep p entry .added)
-  after-rows v e = go (rw e at (sweep-ended .spent))
-    where
-      go : {v : ℕ} → SpentHere (undecided (Rows v))
-          → AfterRows p entry (leftBy p entry .marks) v (length (leftBy p entry .book .store)) (leftBy p entry .book .steps) (sweep p entry .added)
-      go {v} (in-full n i z) = absurd (n v by-rows)
-      go (no-row h) = h
-
-  -- What is said after Steps.
-  pub after-steps :
-      (v : ℕ) → sweep p entry .verdict ≡ undecided (Steps v)
-      → AfterSteps p entry (leftBy p entry .marks) v (length (leftBy p entry .book .store)) (leftBy p entry .book .steps) (sweep p entry .added)
-  after-steps v e = go (rw e at (sweep-ended .spent))
-    where
-      go : {v : ℕ} → SpentHere (undecided (Steps v))
-          → AfterSteps p entry (leftBy p entry .marks) v (length (leftBy p entry .book .store)) (leftBy p entry .book .steps) (sweep p entry .added)
-      go {v} (in-full n i z) = absurd (n v by-steps)
-      go (no-step h) = h
 
   -- After Size some vertex is marked 2: one that is dropped.
   pub size-some : sweep p entry .verdict ≡ undecided Size → (v : ℕ) × (v < vertexCount p) × (markLeft p entry v ≡ 2)
@@ -242,8 +209,8 @@ module _ {p : Problem} {entry : List ℕ} (fit : Fit p entry) where
 
   -- After Rows the vertices not merged at entry have more parts than the row limit.
   pub rows-short : (v : ℕ) → sweep p entry .verdict ≡ undecided (Rows v) → p .limits .rows < together (functionsUnmerged p entry)
-  rows-short v e = omega (arith, after-rows v e .over, rows-bounded)
+  rows-short v e = let x = rw e at sweep-spent in omega (arith, x .over, rows-bounded)
 
   -- After Steps the ANDs not merged at entry take more steps than the step limit.
   pub steps-short : (v : ℕ) → sweep p entry .verdict ≡ undecided (Steps v) → p .limits .steps < sum (map andSteps (andsUnmerged p entry))
-  steps-short v e = omega (arith, after-steps v e .over, steps-bounded)
+  steps-short v e = let x = rw e at sweep-spent in omega (arith, x .over, steps-bounded)

@@ -69,6 +69,12 @@ abbrev pub stepsMarkedWithLast : Problem → List ℕ → List ℕ → ℕ
 stepsMarkedWithLast p rows marks =
     sum (map andSteps (marked (λ m. isEither 1 2 m || is 3 m) (drop (p .first) marks) (andsOf p rows)))
 
+-- "After Equal, Different and Size, steps = the sum over ANDs marked 1 or 2.": no product broke, so the rows added are "0 where none broke".
+-- (RULES 7.6, 7.11)
+pub record Settled (p : Problem) (operands marks : List ℕ) (steps added : ℕ) : Type 0 where
+  pub summed : steps ≡ stepsMarked p operands marks
+  pub none-added : added ≡ 0
+
 -- "The product shall give, when it breaks off too, the steps taken and the rows it had added.": that of AND v, its operands by given rows. The
 -- book that it began with holds, up to inversion, exactly the parts of the functions marked 1, as many as the rows reported, and the steps of
 -- the ANDs marked 1 or 2; the book where it fell short has the rows added besides, and the steps reported. (RULES 7.8, 7.11)
