@@ -56,12 +56,12 @@ module _ (g : Given) (h : refusalOf g ≡ 0) {loaded : List ℕ} (s : Since load
       named-verdict (undecided (Rows u)) v Named.by-rows = Names.by-rows
       named-verdict (undecided (Steps u)) v Named.by-steps = Names.by-steps
 
-  -- Rows is said only where the functions marked 1 or 3 have more parts than the row limit, with what the product that broke off used.
+  -- Rows is said only where the functions marked 1 or 3 have more parts than the row limit, and with what the product that broke off used.
   rows-says : (v : ℕ) → answerTo g .verdict ≡ undecided (Rows v) → ReplySays loaded g left (saidAt (undecided (Rows v)))
   unfolding answered saidBy
   rows-says v k = (spent-replied g h s (undecided (Rows v)) k, rows-replied g h s)
 
-  -- Steps is said only where the steps are the limit and with the vertex marked 3 there are more, and so of its product.
+  -- Steps is said only where the steps are the limit and with the vertex marked 3 there are more, and with what its product used.
   steps-says : (v : ℕ) → answerTo g .verdict ≡ undecided (Steps v) → ReplySays loaded g left (saidAt (undecided (Steps v)))
   unfolding answered saidBy
   steps-says v k = (spent-replied g h s (undecided (Steps v)) k, rows-replied g h s)

@@ -159,12 +159,13 @@ module _ (g : Given) (h : refusalOf g ≡ 0) {loaded : List ℕ} (s : Since load
   unfolding answerTo
   mark-unmerged v l d = marked-unmerged (given-fits g h) v (omega (arith, same-first)) d
 
-  -- Its steps and its product are those of the operands as loaded.
+  -- Its steps are those of the operands as loaded,
   same-steps : (v : ℕ) → there .first ≤ v → v < verticesOf loaded → merged? (graphWords (g .table)) v ≡ false
       → andSteps (andAt here (graphWords (g .table)) v) ≡ andSteps (andAt there (graphWords loaded) v)
   unfolding problemOf
   same-steps v l m e = rw (s .functions, s .inputs) (pair-steps (s .operands v l m e))
 
+  -- and so is its product.
   same-run : (v : ℕ) (b : Book) → there .first ≤ v → v < verticesOf loaded → merged? (graphWords (g .table)) v ≡ false
       → runBy (problemBy (g .table) g) (graphWords (g .table)) v b ≡ runBy (problemBy loaded g) (graphWords loaded) v b
   unfolding problemOf
@@ -253,12 +254,13 @@ module _ (g : Given) (h : refusalOf g ≡ 0) {loaded : List ℕ} (s : Since load
     λ x. three-named (given-fits g h) v .1 (mark-written v (x .0) ∙ x .1),
   )
 
+  -- What is said where no product broke off holds with the operands as loaded,
   settled-replied :
       {steps added : ℕ} → Settled (problemBy (g .table) g) (graphWords (g .table)) (answerTo g .left .marks) steps added
       → Settled (problemBy loaded g) (graphWords loaded) (answered g (answerTo g) .marks) steps added
   settled-replied k = record { summed = k .summed ∙ steps-marked (isEither 1 2) refl; none-added = k .none-added }
 
-  -- What is said of a product that broke off is said of it with the operands as loaded.
+  -- and so does what is said of a product that broke off,
   broke-replied :
       {short : Book → Outcome} {v rows steps added : ℕ} → Names (answerTo g .verdict) v
       → BrokeOff (problemBy (g .table) g) (graphWords (g .table)) (answerTo g .left .marks) short v rows steps added
@@ -282,6 +284,7 @@ module _ (g : Given) (h : refusalOf g ≡ 0) {loaded : List ℕ} (s : Since load
         steps-after = x .steps-after;
       }
 
+  -- or of an input at which none had begun.
   broke-at :
       {v rows steps added : ℕ} → Names (answerTo g .verdict) v
       → BrokeAt (problemBy (g .table) g) (graphWords (g .table)) (answerTo g .left .marks) v rows steps added
@@ -289,7 +292,7 @@ module _ (g : Given) (h : refusalOf g ≡ 0) {loaded : List ℕ} (s : Since load
   broke-at n (at-and x) = at-and (broke-replied n x)
   broke-at n (at-input l e z) = at-input (omega (arith, l, same-first)) e z
 
-  -- What is said of rows, steps and rows added at a verdict is said of it with the functions and operands as loaded.
+  -- So does what any verdict says of rows, steps and rows added.
   spent-alike :
       (rows steps added : ℕ) (x : Verdict) → ((v : ℕ) → Names x v → Names (answerTo g .verdict) v)
       → Spent (problemBy (g .table) g) (graphWords (g .table)) (answerTo g .left .marks) x rows steps added

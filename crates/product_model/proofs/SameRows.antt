@@ -22,12 +22,15 @@ pub data SameOutcome : Outcome → Outcome → Type 0 where
   both-short-of-rows : {b c : Book} → SameRows b c → SameOutcome (shortOfRows b) (shortOfRows c)
   both-short-of-steps : {b c : Book} → SameRows b c → SameOutcome (shortOfSteps b) (shortOfSteps c)
 
+-- Both are short of rows,
 pub both-rows : {b c : Book} → SameOutcome (shortOfRows b) (shortOfRows c) → SameRows b c
 both-rows (both-short-of-rows h) = h
 
+-- or of steps.
 pub both-steps : {b c : Book} → SameOutcome (shortOfSteps b) (shortOfSteps c) → SameRows b c
 both-steps (both-short-of-steps h) = h
 
+-- What follows two such outcomes, where it is such on such books.
 then-same :
     {o p : Outcome} {next other : Book → Outcome} → SameOutcome o p → ((b c : Book) → SameRows b c → SameOutcome (next b) (other c))
     → SameOutcome (o andThen next) (p andThen other)
@@ -36,11 +39,13 @@ then-same (both-done {b} {c} h) k = k b c h
 then-same (both-short-of-rows h) k = both-short-of-rows h
 then-same (both-short-of-steps h) k = both-short-of-steps h
 
+-- The same choice by a test.
 choose-same : (x : Bool) {o p q r : Outcome} → SameOutcome o p → SameOutcome q r → SameOutcome (cond x o q) (cond x p r)
 choose-same true h k = h
 choose-same false h k = k
 
 module _ (rowLimit stepLimit : ℕ) where
+  -- One step more,
   count-same : {b c : Book} → SameRows b c → SameOutcome (countStep stepLimit b) (countStep stepLimit c)
   unfolding countStep
   count-same {b} {c} h =
@@ -49,6 +54,7 @@ module _ (rowLimit stepLimit : ℕ) where
       (both-done (record { steps = ap (λ (n : ℕ). n + 1) (h .steps); count = h .count; members = h .members }))
       (both-short-of-steps h))
 
+  -- one part added,
   part-same : (f : Truth) {b c : Book} → SameRows b c → SameOutcome (addPart rowLimit f b) (addPart rowLimit f c)
   unfolding addPart among
   part-same f {b} {c} h =
@@ -59,10 +65,12 @@ module _ (rowLimit stepLimit : ℕ) where
       (both-done (record { steps = h .steps; count = ap suc (h .count); members = λ t. ap (_||_ (alike? t (plain f))) (h .members t) }))
       (both-short-of-rows h)))
 
+  -- one row added,
   row-same : (low high : Truth) {b c : Book} → SameRows b c → SameOutcome (addRow rowLimit low high b) (addRow rowLimit low high c)
   unfolding addRow
   row-same low high h = choose-same (same? low high) (both-done h) (part-same (node low high) h)
 
+  -- and so a whole run.
   pub run-same : (f g : Truth) {b c : Book} → SameRows b c → SameOutcome (run rowLimit stepLimit f g b) (run rowLimit stepLimit f g c)
   unfolding run
   run-same (leaf x) g h = count-same h

@@ -20,6 +20,7 @@ then-same {o} {next = next} {other = other} e h = rw (← e) (go o)
     go (shortOfSteps b) = refl
 
 module _ (rowLimit stepLimit : ℕ) where
+  -- So a run is the same in either order.
   pub run-symmetric : (f g : Truth) (b : Book) → run rowLimit stepLimit f g b ≡ run rowLimit stepLimit g f b
   unfolding run
   run-symmetric (leaf x) (leaf y) b = refl

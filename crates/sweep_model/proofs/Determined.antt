@@ -27,13 +27,14 @@ module _ {p : Problem} {operands marks : List ℕ} {v rows steps added steps′ 
       (run-same (p .limits .rows) (p .limits .steps) (literalFunction p (firstWord operands v)) (literalFunction p (secondWord operands v)) before)) in
       (sym (x .steps-after) ∙ after .steps ∙ y .steps-after, omega (arith, x .rows-after, y .rows-after, after .count))
 
+  -- So do two accounts of a row limit that was passed.
   broke-at-agree : BrokeAt p operands marks v rows steps added → BrokeAt p operands marks v rows steps′ added′ → (steps ≡ steps′) × (added ≡ added′)
   broke-at-agree (at-and x) (at-and y) = broke-agree (λ b c. both-rows) x y
   broke-at-agree (at-and x) (at-input l e z) = absurd (omega (arith, x .made))
   broke-at-agree (at-input l e z) (at-and y) = absurd (omega (arith, y .made))
   broke-at-agree (at-input l e z) (at-input m f w) = (e ∙ sym f, z ∙ sym w)
 
-  -- After Rows,
+  -- They are determined after Rows,
   pub rows-determined :
       AfterRows p operands marks v rows steps added → AfterRows p operands marks v rows steps′ added′ → (steps ≡ steps′) × (added ≡ added′)
   rows-determined x y = broke-at-agree (x .broke) (y .broke)
