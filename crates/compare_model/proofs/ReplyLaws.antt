@@ -1,6 +1,5 @@
 -- What the verdict of a comparison that is not refused says, in terms of the table as loaded.
 use Prim.Native.Nat.{_+_, _-_, _<_, _≤_, suc, ℕ}
-use Rattle.aig.specs.Lookup.{firstWord, secondWord}
 use Rattle.compare_model.proofs.GraphLaws.{count-vertices, left-literal, right-literal}
 use Rattle.compare_model.proofs.RefusalLaws.{passed}
 use Rattle.compare_model.proofs.RestLaws.{rest-alike}
@@ -8,7 +7,7 @@ use Rattle.compare_model.proofs.Since.{Since, given-fits, given-rows, s
 use Rattle.compare_model.specs.Claims.{AfterSize, Agrees, Differs, MarksKept, RowsKept, problemBy}
 use Rattle.compare_model.specs.Compare.{Given, answerTo, answered, graphWords, overFront, problemOf, refusalOf, settingBytes}
 use Rattle.compare_model.specs.Said.{Named, Said}
-use Rattle.product_model.specs.Run.{Book, Outcome, run}
+use Rattle.product_model.specs.Run.{Book, Outcome}
 use Rattle.sweep_model.proofs.AfterRest.{after-rest}
 use Rattle.sweep_model.proofs.Kept.{pair-runs, pair-steps}
 use Rattle.sweep_model.proofs.Marked.{andAt, ands-at, ands-length}
@@ -18,7 +17,7 @@ use Rattle.sweep_model.proofs.Right.{different-right, equal-right}
 use Rattle.sweep_model.specs.Claims.{And, BrokeAt, BrokeOff, Names, Settled, andSteps, andsFrom, andsOf, at-and, at-input, by-rows, by-steps, is, isEither, marked, sum}
 use Rattle.sweep_model.specs.Fit.{vertexCount}
 use Rattle.sweep_model.specs.Normalise.{merged?}
-use Rattle.sweep_model.specs.State.{Problem, functionOf, literalFunction}
+use Rattle.sweep_model.specs.State.{Problem, functionOf, literalFunction, productBy}
 use Rattle.sweep_model.specs.Sweep.{Verdict, different, equal, undecided}
 use Rattle.sweep_model.specs.declared.Cause.the-variants.{Rows, Size, Steps}
 use Rattle.table.proofs.FunctionLaws.{value-output}
@@ -86,10 +85,6 @@ mark-within marks v h =
 -- The steps of the ANDs whose mark passes a test.
 abbrev stepsOf : (ℕ → Bool) → Problem → List ℕ → List ℕ → ℕ
 stepsOf test p rows marks = sum (map andSteps (marked test (drop (p .first) marks) (andsOf p rows)))
-
--- The product of AND v on a book, the operands by given rows.
-abbrev runBy : Problem → List ℕ → ℕ → Book → Outcome
-runBy p rows v b = run (p .limits .rows) (p .limits .steps) (literalFunction p (firstWord rows v)) (literalFunction p (secondWord rows v)) b
 
 -- Sums of steps by two problems and their rows are the same where they are so of each AND whose mark passes.
 sum-alike : (test : ℕ → Bool) (p q : Problem) (rows other marks more : List ℕ) → p .first ≡ q .first → vertexCount p ≡ vertexCount q
@@ -167,7 +162,7 @@ module _ (g : Given) (h : refusalOf g ≡ 0) {loaded : List ℕ} (s : Since load
 
   -- and so is its product.
   same-run : (v : ℕ) (b : Book) → there .first ≤ v → v < verticesOf loaded → merged? (graphWords (g .table)) v ≡ false
-      → runBy (problemBy (g .table) g) (graphWords (g .table)) v b ≡ runBy (problemBy loaded g) (graphWords loaded) v b
+      → productBy (problemBy (g .table) g) (graphWords (g .table)) v b ≡ productBy (problemBy loaded g) (graphWords loaded) v b
   unfolding problemOf
   same-run v b l m e = rw (s .functions, s .inputs) (pair-runs (g .limits .rows) (g .limits .steps) b (s .operands v l m e))
 

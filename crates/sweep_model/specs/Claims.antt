@@ -2,8 +2,8 @@
 use Prim.Native.Nat.{_+_, _-_, _<_, _≤_, suc, zero, ℕ}
 use Rattle.aig.specs.Literal.{vertexOf}
 use Rattle.aig.specs.Lookup.{firstWord, secondWord}
-use Rattle.product_model.specs.Run.{Book, Outcome, run, shortOfRows, shortOfSteps}
-use Rattle.sweep_model.specs.State.{Problem, literalFunction}
+use Rattle.product_model.specs.Run.{Book, Outcome, shortOfRows, shortOfSteps}
+use Rattle.sweep_model.specs.State.{Problem, literalFunction, productBy}
 use Rattle.sweep_model.specs.Sweep.{Verdict, undecided}
 use Rattle.sweep_model.specs.declared.Cause.the-variants.{Rows, Steps}
 use Rattle.truth.specs.Distinct.{among}
@@ -85,8 +85,7 @@ pub record BrokeOff (p : Problem) (operands marks : List ℕ) (short : Book → 
   pub parts-before : (t : Truth) → among alike? t (before .store) ≡ among alike? t (allParts (marked (is 1) marks (p .functions)))
   pub rows-before : length (before .store) ≡ rows
   pub steps-before : before .steps ≡ stepsMarked p operands marks
-  pub ran : run (p .limits .rows) (p .limits .steps) (literalFunction p (firstWord operands v)) (literalFunction p (secondWord operands v)) before
-      ≡ short after
+  pub ran : productBy p operands v before ≡ short after
   pub rows-after : length (after .store) ≡ rows + added
   pub steps-after : after .steps ≡ steps
 

@@ -1,7 +1,8 @@
 -- What the sweep works on: a problem, and a state that its steps change.
 use Prim.Native.Nat.{ℕ}
+use Rattle.aig.specs.Lookup.{firstWord, secondWord}
 use Rattle.aig.specs.Values.{literalValue}
-use Rattle.product_model.specs.Run.{Book}
+use Rattle.product_model.specs.Run.{Book, Outcome, run}
 use Rattle.truth.specs.Truth.{Truth, conj, constantly, invert}
 use lib.ListN.{getD, set}
 use mathlib.Core.Bool.{Bool, false, true}
@@ -29,6 +30,10 @@ functionOf p v = getD (p .functions) v (constantly (p .inputs) false)
 
 abbrev pub literalFunction : Problem → ℕ → Truth
 literalFunction p r = literalValue invert conj (constantly (p .inputs) false) (p .functions) r
+
+-- "has its product taken": of the functions of the two operands of vertex v, by given rows, on a book. (RULES 6.4)
+abbrev pub productBy : Problem → List ℕ → ℕ → Book → Outcome
+productBy p rows v b = run (p .limits .rows) (p .limits .steps) (literalFunction p (firstWord rows v)) (literalFunction p (secondWord rows v)) b
 
 -- The stage of a vertex: no diagram yet; has one and waits; open; open and waiting again; "too large"; merged. (RULES 6.4, 7.4)
 pub data Stage : Type 0 where

@@ -2,9 +2,9 @@
 use Prim.Native.Nat.{_+_, _-_, max, min, suc, zero, ℕ}
 use Rattle.aig.specs.Literal.{literalOf, negate, vertexOf}
 use Rattle.aig.specs.Lookup.{firstWord, secondWord}
-use Rattle.product_model.specs.Run.{Book, Outcome, addPart, done, run, shortOfRows, shortOfSteps}
+use Rattle.product_model.specs.Run.{Book, Outcome, addPart, done, shortOfRows, shortOfSteps}
 use Rattle.sweep_model.specs.Normalise.{mergedInto, normalise, resolve}
-use Rattle.sweep_model.specs.State.{Problem, Stage, State, again, bare, bare?, dropped, dropped?, functionOf, gone, has?, literalFunction, open?, opened, stageOf, waiting, waits?, withBook, withMark, withRows, withStages}
+use Rattle.sweep_model.specs.State.{Problem, Stage, State, again, bare, bare?, dropped, dropped?, functionOf, gone, has?, literalFunction, open?, opened, productBy, stageOf, waiting, waits?, withBook, withMark, withRows, withStages}
 use Rattle.sweep_model.specs.declared.Cause.the-variants.{Rows, Size, Steps}
 use Rattle.sweep_model.specs.declared.Cause.{Cause}
 use Rattle.truth.specs.Parts.{alike?, size}
@@ -110,11 +110,9 @@ conclude p v s (done b) =
 conclude p v s (shortOfRows b) = ends (undecided (Rows v)) (addedTo (s .book) b) (withMark v 3 (withBook (givenBack (s .book) b) s))
 conclude p v s (shortOfSteps b) = ends (undecided (Steps v)) (addedTo (s .book) b) (withMark v 3 (withBook (givenBack (s .book) b) s))
 
--- "has its product taken": of the functions of the two operands. (RULES 6.4)
+-- "has its product taken", and what follows. (RULES 6.4)
 unfoldable pub multiply : Problem → ℕ → State → Progress
-multiply p v s =
-    conclude p v s
-    (run (p .limits .rows) (p .limits .steps) (literalFunction p (firstWord (s .rows) v)) (literalFunction p (secondWord (s .rows) v)) (s .book))
+multiply p v s = conclude p v s (productBy p (s .rows) v (s .book))
 
 -- "each higher vertex with both operands open, without a diagram, not merged and not dropped" (RULES 6.4)
 unfoldable pub ready? : Problem → ℕ → State → Bool

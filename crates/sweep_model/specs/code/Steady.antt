@@ -5,10 +5,10 @@ use Rattle.aig.specs.Fold.{Unfolded}
 use Rattle.aig.specs.Literal.{negate, vertexOf}
 use Rattle.aig.specs.Lookup.{HoldsRow, firstWord, secondWord}
 use Rattle.aig.specs.Pairs.{SamePair}
-use Rattle.product_model.specs.Run.{Outcome, run}
+use Rattle.product_model.specs.Run.{Outcome}
 use Rattle.sweep_model.specs.Fit.{Sound, vertexCount}
 use Rattle.sweep_model.specs.Normalise.{merged?, resolve, wasMerged?}
-use Rattle.sweep_model.specs.State.{Problem, Stage, State, bare, bare?, gone?, has?, literalFunction, open?, opened, stageOf, waiting}
+use Rattle.sweep_model.specs.State.{Problem, Stage, State, bare, bare?, gone?, has?, open?, opened, productBy, stageOf, waiting}
 use Rattle.sweep_model.specs.Sweep.{bothHave?, turnsLeft}
 use lib.ListN.{length}
 use mathlib.Core.Bool.{Bool, false, true}
@@ -79,8 +79,7 @@ pub record Scanning (p : Problem) (n k : ℕ) (s : State) : Type 0 where
 
 -- The product of a made vertex, with what is left of the limits.
 abbrev pub productOf : Problem → ℕ → State → Outcome
-productOf p v s =
-    run (p .limits .rows) (p .limits .steps) (literalFunction p (firstWord (s .rows) v)) (literalFunction p (secondWord (s .rows) v)) (s .book)
+productOf p v s = productBy p (s .rows) v (s .book)
 
 -- A vertex whose product is taken.
 pub record Due (p : Problem) (entry : List ℕ) (n v : ℕ) (s : State) : Type 0 where
