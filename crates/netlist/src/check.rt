@@ -4,28 +4,33 @@ use netlist_model::Checked;
 use netlist_model::Due;
 use netlist_model::Operation;
 use netlist_model::Record;
+use netlist_model::Role;
 use netlist_model::Stepped;
 use netlist_model::Summary;
 use netlist_records::lines;
 use netlist_records::records;
-ghost use Prim.Native.Nat.{_+_, _<_};
-ghost use Rattle.netlist_model.specs.Check.{andsOf, answerOf, checkFile, finish};
-ghost use Rattle.netlist_model.specs.code.Passing.{Counted, Held, StartsAt, lineRecord, stepOf};
-ghost use Rattle.text.specs.Split.{upTo};
+ghost use Prim.Native.Nat.{_<_};
+ghost use Rattle.netlist_model.specs.Check.{andsOf, answerOf, checkFile, finish, suits?};
+ghost use Rattle.netlist_model.specs.Limits.{byName, byPlace};
+ghost use Rattle.netlist_model.specs.Names.{nameCount};
+ghost use Rattle.netlist_model.specs.Records.{gate-line, header-line, lineWith, output-line};
+ghost use Rattle.netlist_model.specs.code.Passing.{Counted, Held, NamesThere, SeenThere, StartInside, StartsAt, firstLine, frontNames, lineRecord, seenBy, stepOf};
+ghost use lib.Dec.{eqb};
 ghost use lib.ListN.{drop, length};
+ghost use mathlib.Core.Bool.{_&&_, _||_};
+ghost use mathlib.Core.List.{[]};
 ghost use mathlib.Core.Path.{_≡_};
 
-// Whether a file keeps the layout, the limits and the bounds of its references: tests 2 to 6, line by line.
-pub fn check_file(file: &[u8]) -> Checked
-    ensures answer { λ r. ⌜ answerOf r ≡ checkFile (now (file .entry)) ⌝ }
-    ensures start { λ r. ⌜ StartsAt (length (upTo 10 (now (file .entry))) + 1) r ⌝ }
+// Whether a file keeps the layout, the limits, the bounds of its references and its names apart: tests 2 to 6 and 18, line by line.
+pub fn check_file(file: &[u8], role: Role) -> Checked
+    ensures answer { λ r. ⌜ answerOf r ≡ checkFile role (now (file .entry)) ⌝ }
+    ensures start { λ r. ⌜ StartsAt (now (file .entry)) r ⌝ }
 {
-    let start = text::until(file, 0, lines::LINE_END).len() + 1;
     let mut at = 0;
     let mut line: u32 = 1;
-    let mut due = Due::First;
+    let mut due = Due::First(role);
     while at < file.len() {
-        let stepped = step(due, next_record(file, at));
+        let stepped = step(file, at, due);
         match stepped {
             Stepped::Refuse(number) => return Checked::Refused { number, line },
             Stepped::Next(next) => {
@@ -35,7 +40,7 @@ pub fn check_file(file: &[u8]) -> Checked
             }
         }
     }
-    ended(start, line, due)
+    ended(file, line, due)
 }
 
 // The record of the line that starts at `at`, malformed if it has no end byte.
@@ -50,22 +55,26 @@ fn next_record(file: &[u8], at: usize) -> Record
     records::read_record(line)
 }
 
-// What a line comes to, by what is due.
-fn step(due: Due, found: Record) -> Stepped
+// What the line that starts at `at` comes to, by what is due.
+fn step(file: &[u8], at: usize, due: Due) -> Stepped
     requires { ⌜ Held due ⌝ }
-    ensures { λ r. ⌜ r ≡ stepOf due found ⌝ }
+    requires { ⌜ SeenThere (now file) due ⌝ }
+    requires { ⌜ at < length (now file) ⌝ }
+    ensures { λ r. ⌜ r ≡ stepOf (seenBy (now (file .entry)) due) due (firstLine (drop at (now (file .entry)))) ⌝ }
 {
+    let found = next_record(file, at);
     match due {
-        Due::First => first_step(found),
-        Due::Later(body) => later_step(body, found),
+        Due::First(role) => first_step(role, found),
+        Due::Later(body) => later_step(file, at, body, found),
     }
 }
 
-fn first_step(found: Record) -> Stepped
-    ensures { λ r. ⌜ r ≡ stepOf Due.First found ⌝ }
+fn first_step(role: Role, found: Record) -> Stepped
+    ensures { λ r. ⌜ r ≡ stepOf [] (Due.First role) (lineWith found []) ⌝ }
 {
     match found {
         Record::Malformed => Stepped::Refuse(2),
+        Record::Name => Stepped::Refuse(5),
         Record::Gate { op: _, p: _, q: _ } => Stepped::Refuse(5),
         Record::Output(_) => Stepped::Refuse(5),
         Record::Header {
@@ -73,14 +82,14 @@ fn first_step(found: Record) -> Stepped
             inputs,
             gates,
             outputs,
-        } => header_step(edition, inputs, gates, outputs),
+        } => header_step(role, edition, inputs, gates, outputs),
     }
 }
 
-fn header_step(edition: u32, inputs: u32, gates: u32, outputs: u32) -> Stepped
-    ensures { λ r. ⌜ r ≡ stepOf Due.First (Record.Header edition inputs gates outputs) ⌝ }
+fn header_step(role: Role, edition: u32, inputs: u32, gates: u32, outputs: u32) -> Stepped
+    ensures { λ r. ⌜ r ≡ stepOf [] (Due.First role) (header-line edition inputs gates outputs) ⌝ }
 {
-    if edition != netlist_model::EDITION {
+    if !is_known(role, edition) {
         return Stepped::Refuse(3);
     }
     if table::MAX_INPUTS < inputs {
@@ -96,18 +105,50 @@ fn header_step(edition: u32, inputs: u32, gates: u32, outputs: u32) -> Stepped
         return Stepped::Refuse(4);
     }
     Stepped::Next(Due::Later(Body {
+        edition,
         inputs,
+        names: name_count(edition, inputs),
         gates,
         outputs,
+        name: 0,
         gate: 0,
         output: 0,
         ands: 0,
     }))
 }
 
-fn later_step(body: Body, found: Record) -> Stepped
+// Whether a file of a pair may have an edition.
+fn is_known(role: Role, edition: u32) -> bool
+    ensures { λ r. ⌜ r ≡ ((eqb edition byPlace || eqb edition byName) && suits? role edition) ⌝ }
+{
+    if edition < netlist_model::BY_PLACE {
+        return false;
+    }
+    if netlist_model::BY_NAME < edition {
+        return false;
+    }
+    match role {
+        Role::First => true,
+        Role::Second(first) => edition == first,
+    }
+}
+
+// How many lines of names an edition makes due.
+fn name_count(edition: u32, inputs: u32) -> u32
+    ensures { λ r. ⌜ r ≡ nameCount edition inputs ⌝ }
+{
+    if edition == netlist_model::BY_NAME {
+        return inputs;
+    }
+    0
+}
+
+fn later_step(file: &[u8], at: usize, body: Body, found: Record) -> Stepped
     requires { ⌜ Counted body ⌝ }
-    ensures { λ r. ⌜ r ≡ stepOf (Due.Later body) found ⌝ }
+    requires { ⌜ NamesThere (now file) (body .name) ⌝ }
+    requires { ⌜ at < length (now file) ⌝ }
+    requires { ⌜ found ≡ lineRecord (drop at (now file)) ⌝ }
+    ensures { λ r. ⌜ r ≡ stepOf (frontNames (body .name) (now (file .entry))) (Due.Later body) (firstLine (drop at (now (file .entry)))) ⌝ }
 {
     match found {
         Record::Malformed => Stepped::Refuse(2),
@@ -117,15 +158,46 @@ fn later_step(body: Body, found: Record) -> Stepped
             gates: _,
             outputs: _,
         } => Stepped::Refuse(5),
+        Record::Name => name_step(file, at, body),
         Record::Gate { op, p, q } => gate_step(body, op, p, q),
         Record::Output(r) => output_step(body, r),
     }
 }
 
+fn name_step(file: &[u8], at: usize, body: Body) -> Stepped
+    requires { ⌜ Counted body ⌝ }
+    requires { ⌜ NamesThere (now file) (body .name) ⌝ }
+    requires { ⌜ at < length (now file) ⌝ }
+    requires { ⌜ Record.Name ≡ lineRecord (drop at (now file)) ⌝ }
+    ensures { λ r. ⌜ r ≡ stepOf (frontNames (body .name) (now (file .entry))) (Due.Later body) (firstLine (drop at (now (file .entry)))) ⌝ }
+{
+    let name = netlist_names::name_at(file, at);
+    if body.names <= body.name {
+        return Stepped::Refuse(5);
+    }
+    if netlist_names::find_name(file, body.name, name) < body.name {
+        return Stepped::Refuse(18);
+    }
+    Stepped::Next(Due::Later(Body {
+        edition: body.edition,
+        inputs: body.inputs,
+        names: body.names,
+        gates: body.gates,
+        outputs: body.outputs,
+        name: body.name + 1,
+        gate: body.gate,
+        output: body.output,
+        ands: body.ands,
+    }))
+}
+
 fn gate_step(body: Body, op: Operation, p: u32, q: u32) -> Stepped
     requires { ⌜ Counted body ⌝ }
-    ensures { λ r. ⌜ r ≡ stepOf (Due.Later body) (Record.Gate op p q) ⌝ }
+    ensures { λ r. ⌜ r ≡ stepOf [] (Due.Later body) (gate-line op p q) ⌝ }
 {
+    if body.name != body.names {
+        return Stepped::Refuse(5);
+    }
     if body.gates <= body.gate {
         return Stepped::Refuse(5);
     }
@@ -137,9 +209,12 @@ fn gate_step(body: Body, op: Operation, p: u32, q: u32) -> Stepped
         return Stepped::Refuse(6);
     }
     Stepped::Next(Due::Later(Body {
+        edition: body.edition,
         inputs: body.inputs,
+        names: body.names,
         gates: body.gates,
         outputs: body.outputs,
+        name: body.name,
         gate: body.gate + 1,
         output: body.output,
         ands: body.ands + ands_of(op),
@@ -159,8 +234,11 @@ fn ands_of(op: Operation) -> u32
 
 fn output_step(body: Body, r: u32) -> Stepped
     requires { ⌜ Counted body ⌝ }
-    ensures { λ s. ⌜ s ≡ stepOf (Due.Later body) (Record.Output r) ⌝ }
+    ensures { λ s. ⌜ s ≡ stepOf [] (Due.Later body) (output-line r) ⌝ }
 {
+    if body.name != body.names {
+        return Stepped::Refuse(5);
+    }
     if body.gate != body.gates {
         return Stepped::Refuse(5);
     }
@@ -171,9 +249,12 @@ fn output_step(body: Body, r: u32) -> Stepped
         return Stepped::Refuse(6);
     }
     Stepped::Next(Due::Later(Body {
+        edition: body.edition,
         inputs: body.inputs,
+        names: body.names,
         gates: body.gates,
         outputs: body.outputs,
+        name: body.name,
         gate: body.gate,
         output: body.output + 1,
         ands: body.ands,
@@ -181,13 +262,18 @@ fn output_step(body: Body, r: u32) -> Stepped
 }
 
 // After the last line, `line` being the number of the next.
-fn ended(start: usize, line: u32, due: Due) -> Checked
+fn ended(file: &[u8], line: u32, due: Due) -> Checked
+    requires { ⌜ Held due ⌝ }
+    requires { ⌜ StartInside (now file) due ⌝ }
     ensures answer { λ r. ⌜ answerOf r ≡ finish line due ⌝ }
-    ensures start { λ r. ⌜ StartsAt start r ⌝ }
+    ensures start { λ r. ⌜ StartsAt (now (file .entry)) r ⌝ }
 {
     let Due::Later(body) = due else {
         return Checked::Refused { number: 5, line };
     };
+    if body.name != body.names {
+        return Checked::Refused { number: 5, line };
+    }
     if body.gate != body.gates {
         return Checked::Refused { number: 5, line };
     }
@@ -195,10 +281,12 @@ fn ended(start: usize, line: u32, due: Due) -> Checked
         return Checked::Refused { number: 5, line };
     }
     Checked::Accepted(Summary {
+        edition: body.edition,
         inputs: body.inputs,
+        names: body.names,
         gates: body.gates,
         outputs: body.outputs,
         ands: body.ands,
-        start,
+        start: netlist_names::place_after(file, 1 + body.names),
     })
 }

@@ -1,7 +1,10 @@
 pub mod CheckLaws
 pub mod FileLaws
+pub mod FrontLaws
 pub mod LineLaws
 pub mod MeaningLaws
+pub mod NameLaws
+pub mod PairingLaws
 pub mod PassingLaws
 pub mod ReadLaws
 pub mod RecordLaws

@@ -1,19 +1,26 @@
 -- A netlist within its limits is read back from its bytes, and whatever is read is the bytes of what it gives.
-use Prim.Native.Nat.{_+_, ℕ}
-use Rattle.netlist_model.proofs.CheckLaws.{Taken, records-accepted, taken}
-use Rattle.netlist_model.proofs.FileLaws.{bytes-read, file-written, within-spelled}
-use Rattle.netlist_model.proofs.LineLaws.{line-ahead}
-use Rattle.netlist_model.specs.code.Accepted.{HoldsNetlist, countsIn, summaryOf}
-use Rattle.netlist_model.specs.Check.{Answer, Counts, accepted, answerOf, body, checkFile, gatesIn, netlistIn, outputsIn, read, readBy, readNetlist, refused}
+use Prim.Native.Nat.{_+_, suc, ℕ}
+use Rattle.netlist_model.proofs.CheckLaws.{Taken, lines-accepted, taken}
+use Rattle.netlist_model.proofs.FileLaws.{bytes-read, file-legible, file-written, within-spelled}
+use Rattle.netlist_model.proofs.FrontLaws.{front-formed, front-names, lines-after, names-in}
+use Rattle.netlist_model.proofs.StepLaws.{check-refused, header-edition}
+use Rattle.netlist_model.specs.code.Accepted.{HoldsNetlist, ReadAs, Suits, countsIn, netlistOf, summaryWith}
+use Rattle.netlist_model.specs.code.Passing.{Names, NamesThere, frontNames, gatesAt}
+use Rattle.netlist_model.specs.Check.{Answer, Counts, accepted, answerOf, checkFile, gatesIn, namesIn, netlistIn, outputsIn, read, readBy, readNetlist, refused, summaryCounts, unread}
 use Rattle.netlist_model.specs.Netlist as netlist
-use Rattle.netlist_model.specs.Netlist.{Netlist, Within, bodyRecords, bytesOf, gateRecord, headerRecord, linesBytes, netlistRecords}
-use Rattle.netlist_model.specs.Records.{fileRecords}
+use Rattle.netlist_model.specs.Netlist.{Netlist, Within, bodyLines, bodyRecords, bytesOf, gateLine, gateRecord, headerLine, linesBytes, netlistLines}
+use Rattle.netlist_model.specs.Records.{Line, fileLines, kindOf, name-line, output-line, recordsIn}
 use Rattle.netlist_model.specs.declared.Checked.the-variants.{Accepted}
+use Rattle.netlist_model.specs.declared.Due.the-variants.{First}
+use Rattle.netlist_model.specs.declared.Role.the-variants.{Second}
+use Rattle.netlist_model.specs.declared.Role.{Role}
 use Rattle.netlist_model.specs.declared.Summary.{Summary}
-use Rattle.netlist_model.specs.declared.Record.the-variants.{Gate, Malformed, Output}
-use Rattle.text.specs.Split.{upTo}
-use lib.ListN.{length}
-use mathlib.Core.List.{List, [], _++_, _∷_, map}
+use Rattle.netlist_model.specs.declared.Record.the-variants.{Malformed, Output}
+use Rattle.netlist_model.specs.declared.Record.{Record}
+use borrow.Author.Tests.{eqb-true}
+use lib.ListN.{drop, length, length-map}
+use lib.Seq.{drop-at}
+use mathlib.Core.List.{List, [], _++_, _∷_, append-nil, map}
 use mathlib.Core.Path.{_∙_, _≡_, ap, ap₂, refl, subst, subst⁻¹, sym}
 use native.Mathlib.Omega.{arith}
 
@@ -30,78 +37,141 @@ outputs-in [] [] = refl
 outputs-in [] (r ∷ os) = ap (λ (l : List ℕ). r ∷ l) (outputs-in [] os)
 outputs-in (g ∷ gs) os = outputs-in gs os
 
--- The records of a netlist hold that netlist.
-pub netlist-in : (d : Netlist) → netlistIn (d .inputs) (netlistRecords d) ≡ d
-unfolding netlistRecords bodyRecords gatesIn outputsIn
-netlist-in d = rw (gates-in (d .gates) (d .outputs), outputs-in (d .gates) (d .outputs)) refl
+-- Among the lines of names there are neither.
+gates-after : (names : List (List ℕ)) (ls : List Line) → gatesIn (recordsIn (map name-line names ++ ls)) ≡ gatesIn (recordsIn ls)
+unfolding gatesIn
+gates-after [] ls = refl
+gates-after (x ∷ names) ls = gates-after names ls
 
-header-formed : (d : Netlist) → headerRecord d ≡ Malformed → ⊥
+outputs-after : (names : List (List ℕ)) (ls : List Line) → outputsIn (recordsIn (map name-line names ++ ls)) ≡ outputsIn (recordsIn ls)
+unfolding outputsIn
+outputs-after [] ls = refl
+outputs-after (x ∷ names) ls = outputs-after names ls
+
+-- The records of the gates and outputs, and the names among their lines.
+body-records : (gs : List netlist.Gate) (os : List ℕ) → recordsIn (map gateLine gs ++ map output-line os) ≡ map gateRecord gs ++ map Output os
+body-records [] [] = refl
+body-records [] (r ∷ os) = ap (λ (l : List Record). Output r ∷ l) (body-records [] os)
+body-records (g ∷ gs) os = ap (λ (l : List Record). gateRecord g ∷ l) (body-records gs os)
+
+no-names : (gs : List netlist.Gate) (os : List ℕ) → namesIn (map gateLine gs ++ map output-line os) ≡ []
+unfolding namesIn
+no-names [] [] = refl
+no-names [] (r ∷ os) = no-names [] os
+no-names (g ∷ gs) os = no-names gs os
+
+-- The lines of a netlist hold that netlist.
+pub netlist-in : (d : Netlist) → netlistIn (countsIn d) (netlistLines d) ≡ d
+unfolding netlistLines bodyLines gatesIn outputsIn namesIn
+netlist-in d =
+    rw (
+      names-in (d .names) (map gateLine (d .gates) ++ map output-line (d .outputs)),
+      no-names (d .gates) (d .outputs),
+      append-nil (d .names),
+      gates-after (d .names) (map gateLine (d .gates) ++ map output-line (d .outputs)),
+      outputs-after (d .names) (map gateLine (d .gates) ++ map output-line (d .outputs)),
+      body-records (d .gates) (d .outputs),
+    )
+    (rw (gates-in (d .gates) (d .outputs), outputs-in (d .gates) (d .outputs)) refl)
+
+header-formed : (d : Netlist) → kindOf (headerLine d) ≡ Malformed → ⊥
 header-formed d e = let z : _≡_ {A = ℕ} 0 1 = cc in omega arith
 
--- A file of the records of a netlist within its limits is accepted, is read as that netlist, and is its bytes.
-module _ {d : Netlist} (w : Within d) (bytes : List ℕ) (e : fileRecords bytes ≡ netlistRecords d) where
-  pub records-checked : checkFile bytes ≡ accepted (countsIn d)
+-- The names of a file of the lines of a netlist.
+pub names-held : (d : Netlist) {bytes : List ℕ} → fileLines bytes ≡ netlistLines d → Names bytes (d .names)
+unfolding netlistLines
+names-held d e = record { first = headerLine d; formed = header-formed d; rest = bodyLines d; lines = e }
+
+-- A file of the lines of a netlist within its limits is accepted, is read as that netlist, and is its bytes.
+module _ (role : Role) {d : Netlist} (w : Within d) (suits : Suits role (d .edition)) (bytes : List ℕ) (e : fileLines bytes ≡ netlistLines d) where
+  pub lines-checked : checkFile role bytes ≡ accepted (countsIn d)
   unfolding checkFile
-  records-checked = rw e (records-accepted w)
+  lines-checked = rw e (lines-accepted role w suits)
 
-  records-read : readNetlist bytes ≡ read d
+  lines-read : readNetlist role bytes ≡ read d
   unfolding readNetlist readBy
-  records-read = rw (records-checked, e) (ap read (netlist-in d))
+  lines-read = rw (lines-checked, e) (ap read (netlist-in d))
 
-  records-hold : HoldsNetlist bytes (summaryOf (length (upTo 10 bytes) + 1) d) d
-  unfolding bytesOf netlistRecords
-  records-hold =
-      let first = line-ahead bytes 0 e (header-formed d) in
-      let z : length (upTo 10 bytes) + 1 ≡ 0 + length (upTo 10 bytes) + 1 = omega arith in
+  lines-hold : HoldsNetlist bytes (summaryWith (gatesAt bytes (length (d .names))) (countsIn d)) d
+  unfolding bytesOf netlistLines bodyLines bodyRecords
+  lines-hold =
+      let z : 1 + length (d .names) ≡ suc (length (d .names)) = omega arith in
+      let a = lines-after bytes (suc (length (d .names))) (front-formed (names-held d e)) (suc (length (d .names))) (omega arith) in
+      let after : drop (length (d .names)) (map name-line (d .names) ++ bodyLines d) ≡ bodyLines d =
+      drop-at (map name-line (d .names)) (bodyLines d) (length (d .names)) (length-map (d .names) name-line) in
       record {
-        reads = records-read;
         file = file-written bytes (rw e (within-spelled w)) ∙ ap linesBytes e;
         within = w;
         counts = refl;
-        records = e;
-        inside = omega (arith, first .ended);
-        body = rw z (first .rest);
+        lines = e;
+        inside = rw z (a .inside);
+        body = rw z (ap recordsIn (a .lines ∙ ap (drop (suc (length (d .names)))) e ∙ after) ∙ body-records (d .gates) (d .outputs));
       }
 
--- A netlist within its limits is read back from its bytes.
-pub read-back : (d : Netlist) → Within d → readNetlist (bytesOf d) ≡ read d
+  lines-read-as : ReadAs role bytes (summaryWith (gatesAt bytes (length (d .names))) (countsIn d)) d
+  lines-read-as = record { reads = lines-read; edition = suits; holds = lines-hold }
+
+-- A netlist within its limits is read back from its bytes, as a first file or as the second of a pair of its edition.
+pub read-back : (role : Role) (d : Netlist) → Within d → Suits role (d .edition) → readNetlist role (bytesOf d) ≡ read d
 unfolding bytesOf
-read-back d w = records-read w (linesBytes (netlistRecords d)) (bytes-read (within-spelled w))
+read-back role d w s = lines-read role w s (linesBytes (netlistLines d)) (bytes-read (within-spelled w))
 
--- An accepted file is the records of a netlist within its limits, with the counts that the check gives.
-checked : (bytes : List ℕ) (c : Counts) → checkFile bytes ≡ accepted c → Taken c (fileRecords bytes)
+-- As the second of a pair of another edition it is refused with 3.
+pub read-other-edition : (first : ℕ) (d : Netlist) → Within d → (d .edition ≡ first → ⊥) → readNetlist (Second first) (bytesOf d) ≡ unread 3 1
+unfolding bytesOf checkFile readNetlist readBy netlistLines
+read-other-edition first d w other =
+    let refusal =
+    check-refused 1 [] (First (Second first)) (headerLine d) (map name-line (d .names) ++ bodyLines d) 3
+    (header-edition [] (Second first) (d .edition) (d .inputs) (length (d .gates)) (length (d .outputs))
+    (λ k. other (eqb-true (d .edition) first (k .same)))) in
+    rw (bytes-read (within-spelled w), refusal) refl
+
+-- An accepted file is the lines of a netlist within its limits, with the counts that the check gives.
+checked : (role : Role) (bytes : List ℕ) (c : Counts) → checkFile role bytes ≡ accepted c → Taken c role (fileLines bytes)
 unfolding checkFile
-checked bytes c e = taken c (fileRecords bytes) e
+checked role bytes c e = taken c role (file-legible bytes) e
 
--- So it holds that netlist.
-pub accepted-holds : (bytes : List ℕ) (s : Summary) → checkFile bytes ≡ answerOf (Accepted s) → s .start ≡ length (upTo 10 bytes) + 1
-    → HoldsNetlist bytes s (netlistIn (s .inputs) (fileRecords bytes))
-accepted-holds bytes s e at =
-    let t = checked bytes _ e in
-    let i : s .inputs ≡ t .held .inputs = ap (λ (x : Counts). x .inputs) (t .sums) in
-    let d : netlistIn (s .inputs) (fileRecords bytes) ≡ t .held = ap₂ netlistIn i (t .records) ∙ netlist-in (t .held) in
-    let sums : s ≡ summaryOf (length (upTo 10 bytes) + 1) (t .held) = summed at (t .sums) in
-    subst⁻¹ (HoldsNetlist bytes s) d (subst⁻¹ (λ (x : Summary). HoldsNetlist bytes x (t .held)) sums (records-hold (t .within) bytes (t .records)))
+taken-is : {role : Role} {ls : List Line} {c : Counts} (t : Taken c role ls) → netlistIn c ls ≡ t .held
+taken-is t = ap₂ netlistIn (t .sums) (t .lines) ∙ netlist-in (t .held)
+
+-- So it holds that netlist, and is read as it.
+pub accepted-holds : (role : Role) (bytes : List ℕ) (s : Summary) → checkFile role bytes ≡ answerOf (Accepted s) → s .start ≡ gatesAt bytes (s .names)
+    → ReadAs role bytes s (netlistOf bytes s)
+unfolding netlistOf
+accepted-holds role bytes s e at =
+    let t = checked role bytes _ e in
+    let names : s .names ≡ length (t .held .names) = ap (λ (x : Counts). x .names) (t .sums) in
+    let sums : s ≡ summaryWith (gatesAt bytes (length (t .held .names))) (countsIn (t .held)) = summed (at ∙ ap (gatesAt bytes) names) (t .sums) in
+    subst⁻¹ (ReadAs role bytes s) (taken-is t)
+    (subst⁻¹ (λ (x : Summary). ReadAs role bytes x (t .held)) sums (lines-read-as role (t .within) (t .edition) bytes (t .lines)))
   where
-    summed : {n : ℕ} {c : Counts} → s .start ≡ n
-        → record { inputs = s .inputs; gates = s .gates; outputs = s .outputs; ands = s .ands } ≡ c
-        → s ≡ record { inputs = c .inputs; gates = c .gates; outputs = c .outputs; ands = c .ands; start = n }
+    summed : {n : ℕ} {c : Counts} → s .start ≡ n → summaryCounts s ≡ c → s ≡ summaryWith n c
     summed f g = rw (← f, ← g) refl
 
+-- The names in the lines of a file that holds a netlist.
+module _ {bytes : List ℕ} {s : Summary} {d : Netlist} (h : HoldsNetlist bytes s d) where
+  pub holds-names : NamesThere bytes (s .names)
+  holds-names = record { names = d .names; there = names-held d (h .lines); counted = sym (ap (λ (x : Summary). x .names) (h .counts)) }
+
+  pub holds-front : frontNames (s .names) bytes ≡ d .names
+  holds-front = front-names (names-held d (h .lines)) (s .names) (sym (ap (λ (x : Summary). x .names) (h .counts)))
+
 -- What is read holds the netlist that is given.
-pub read-holds : (bytes : List ℕ) (d : Netlist) → readNetlist bytes ≡ read d → HoldsNetlist bytes (summaryOf (length (upTo 10 bytes) + 1) d) d
+pub read-holds : (role : Role) (bytes : List ℕ) (d : Netlist) → readNetlist role bytes ≡ read d
+    → ReadAs role bytes (summaryWith (gatesAt bytes (length (d .names))) (countsIn d)) d
 unfolding readNetlist readBy
-read-holds bytes d e = go (checkFile bytes) refl e
+read-holds role bytes d e = go (checkFile role bytes) refl e
   where
-    go : (c : Answer) → checkFile bytes ≡ c → readBy c (fileRecords bytes) ≡ read d → HoldsNetlist bytes (summaryOf (length (upTo 10 bytes) + 1) d) d
+    go : (c : Answer) → checkFile role bytes ≡ c → readBy c (fileLines bytes) ≡ read d
+        → ReadAs role bytes (summaryWith (gatesAt bytes (length (d .names))) (countsIn d)) d
     go (refused k n) h f = let z : _≡_ {A = ℕ} 0 1 = cc in absurd (omega arith)
     go (accepted c) h f =
-        let t = checked bytes c h in
-        let i : c .inputs ≡ t .held .inputs = ap (λ (x : Counts). x .inputs) (t .sums) in
-        let is : netlistIn (c .inputs) (fileRecords bytes) ≡ d = cc in
-        let held : t .held ≡ d = sym (ap₂ netlistIn i (t .records) ∙ netlist-in (t .held)) ∙ is in
-        subst (λ (x : Netlist). HoldsNetlist bytes (summaryOf (length (upTo 10 bytes) + 1) x) x) held (records-hold (t .within) bytes (t .records))
+        let t = checked role bytes c h in
+        let is : netlistIn c (fileLines bytes) ≡ d = cc in
+        let held : t .held ≡ d = sym (taken-is t) ∙ is in
+        subst (λ (x : Netlist). ReadAs role bytes (summaryWith (gatesAt bytes (length (x .names))) (countsIn x)) x) held
+        (lines-read-as role (t .within) (t .edition) bytes (t .lines))
 
--- Whatever is read is the bytes of what it gives, which keeps the limits.
-pub read-only : (bytes : List ℕ) (d : Netlist) → readNetlist bytes ≡ read d → (bytes ≡ bytesOf d) × Within d
-read-only bytes d e = let h = read-holds bytes d e in (h .file, h .within)
+-- Whatever is read is the bytes of what it gives, which keeps the limits and has an edition that suits.
+pub read-only : (role : Role) (bytes : List ℕ) (d : Netlist) → readNetlist role bytes ≡ read d → (bytes ≡ bytesOf d) × Within d × Suits role (d .edition)
+read-only role bytes d e = let h = read-holds role bytes d e in (h .holds .file, h .holds .within, h .edition)

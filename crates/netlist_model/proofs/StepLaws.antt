@@ -1,7 +1,10 @@
 -- What one line comes to, case by case, and what the end of a file comes to.
 use Prim.Native.Nat.{_*_, _+_, _<_, _≤_, ℕ}
-use Rattle.netlist_model.specs.Check.{Answer, accepted, andsOf, below?, body, checkFrom, countsOf, due?, dueAfter, finish, formed?, header?, known?, limited?, lineTests, more?, refused}
-use Rattle.netlist_model.specs.Limits.{edition, maxGates}
+use Rattle.netlist_model.proofs.NameLaws.{among-place, place-among}
+use Rattle.netlist_model.specs.Check.{Answer, accepted, afterGate, afterHeader, afterName, afterOutput, andsOf, below?, checkFrom, countsOf, due?, dueAfter, finish, formed?, header?, known?, limited?, lineTests, more?, nameGiven, refused, suits?, twice?}
+use Rattle.netlist_model.specs.Limits.{byName, byPlace, maxGates}
+use Rattle.netlist_model.specs.Names.{Among, among?, placeOf}
+use Rattle.netlist_model.specs.Records.{Line, gate-line, header-line, kindOf, lineWith, malformed-line, name-line, output-line}
 use Rattle.netlist_model.specs.code.Passing.{stepOf}
 use Rattle.netlist_model.specs.declared.Body.{Body}
 use Rattle.netlist_model.specs.declared.Due.the-variants.{First, Later}
@@ -10,16 +13,19 @@ use Rattle.netlist_model.specs.declared.Stepped.the-variants.{Next, Refu
 use Rattle.netlist_model.specs.declared.Stepped.{Stepped}
 use Rattle.netlist_model.specs.declared.Operation.the-variants.{And, Or, Xor}
 use Rattle.netlist_model.specs.declared.Operation.{Operation}
-use Rattle.netlist_model.specs.declared.Record.the-variants.{Gate, Header, Malformed, Output}
+use Rattle.netlist_model.specs.declared.Record.the-variants.{Gate, Header, Malformed, Name, Output}
 use Rattle.netlist_model.specs.declared.Record.{Record}
+use Rattle.netlist_model.specs.declared.Role.{Role}
 use Rattle.table.specs.Limits.{maxInputs, maxOutputs}
 use Rattle.table.specs.Refusals.{firstRefusal}
-use Rattle.truth.proofs.Booleans.{and-left, and-right, clash}
-use borrow.Author.Tests.{eq-eqb, eqb-false, eqb-true, le-leb, leb-true, lt-ltb, ltb-false, ltb-true}
+use Rattle.truth.proofs.Booleans.{and-left, and-right, clash, or-cases, or-left, or-right}
+use borrow.Author.Tests.{eq-eqb, eqb-true, le-leb, leb-true, lt-ltb, ltb-false, ltb-true}
 use lib.Dec.{eqb, leb, ltb}
-use mathlib.Core.Bool.{Bool, _&&_, cond, false, not, true}
-use mathlib.Core.List.{List, _∷_}
-use mathlib.Core.Path.{_∙_, _≡_, refl}
+use lib.ListN.{length}
+use mathlib.Core.Bool.{Bool, _&&_, _||_, cond, false, not, true}
+use mathlib.Core.List.{List, [], _++_, _∷_}
+use mathlib.Core.Logic.{_⊎_, inl, inr, ⊎-elim}
+use mathlib.Core.Path.{_∙_, _≡_, ap, refl}
 use native.Mathlib.Omega.{arith}
 
 -- A refusal at line n, or what follows.
@@ -27,46 +33,87 @@ abbrev pub andThen : ℕ → Stepped → (Due → Answer) → Answer
 andThen n (Refuse k) rest = refused k n
 andThen n (Next due) rest = rest due
 
--- The records from line n on: what the first comes to, and then the others.
-pub check-step : (n : ℕ) (due : Due) (r : Record) (rs : List Record)
-    → checkFrom n due (r ∷ rs) ≡ andThen n (stepOf due r) (λ next. checkFrom (n + 1) next rs)
+-- The lines from line n on: what the first comes to, and then the others.
+pub check-step : (n : ℕ) (seen : List (List ℕ)) (due : Due) (l : Line) (ls : List Line)
+    → checkFrom n seen due (l ∷ ls) ≡ andThen n (stepOf seen due l) (λ next. checkFrom (n + 1) (seen ++ nameGiven l) next ls)
 unfolding checkFrom stepOf
-check-step n due r rs = go (eqb (firstRefusal 0 (lineTests due r)) 0)
+check-step n seen due l ls = go (eqb (firstRefusal 0 (lineTests seen due l)) 0)
   where
     go : (b : Bool)
-        → cond b (checkFrom (n + 1) (dueAfter due r) rs) (refused (firstRefusal 0 (lineTests due r)) n)
-        ≡ andThen n (cond b (Next (dueAfter due r)) (Refuse (firstRefusal 0 (lineTests due r)))) (λ next. checkFrom (n + 1) next rs)
+        → cond b (checkFrom (n + 1) (seen ++ nameGiven l) (dueAfter due (kindOf l)) ls) (refused (firstRefusal 0 (lineTests seen due l)) n)
+        ≡ andThen n (cond b (Next (dueAfter due (kindOf l))) (Refuse (firstRefusal 0 (lineTests seen due l)))) (λ next. checkFrom (n + 1) (seen ++ nameGiven l) next ls)
     go true = refl
     go false = refl
 
 -- A line that is passed.
-pub check-next : (n : ℕ) (due next : Due) (r : Record) (rs : List Record) → stepOf due r ≡ Next next
-    → checkFrom n due (r ∷ rs) ≡ checkFrom (n + 1) next rs
-check-next n due next r rs e = check-step n due r rs ∙ (rw e refl)
+pub check-next : (n : ℕ) (seen : List (List ℕ)) (due next : Due) (l : Line) (ls : List Line) → stepOf seen due l ≡ Next next
+    → checkFrom n seen due (l ∷ ls) ≡ checkFrom (n + 1) (seen ++ nameGiven l) next ls
+check-next n seen due next l ls e = check-step n seen due l ls ∙ (rw e refl)
 
 -- A line that is refused.
-pub check-refused : (n : ℕ) (due : Due) (r : Record) (rs : List Record) (k : ℕ) → stepOf due r ≡ Refuse k → checkFrom n due (r ∷ rs) ≡ refused k n
-check-refused n due r rs k e = check-step n due r rs ∙ (rw e refl)
+pub check-refused : (n : ℕ) (seen : List (List ℕ)) (due : Due) (l : Line) (ls : List Line) (k : ℕ) → stepOf seen due l ≡ Refuse k
+    → checkFrom n seen due (l ∷ ls) ≡ refused k n
+check-refused n seen due l ls k e = check-step n seen due l ls ∙ (rw e refl)
 
--- A malformed line, whatever is due.
-pub malformed-refused : (due : Due) → stepOf due Malformed ≡ Refuse 2
-unfolding stepOf firstRefusal formed? header? known? limited? due? below?
-malformed-refused First = refl
-malformed-refused (Later b) = refl
+-- What each line comes to, whatever names are in earlier lines.
+module _ (seen : List (List ℕ)) where
+  -- A malformed line, whatever is due.
+  pub malformed-refused : (due : Due) → stepOf seen due malformed-line ≡ Refuse 2
+  unfolding stepOf firstRefusal formed? header? known? limited? due? below? twice?
+  malformed-refused (First role) = refl
+  malformed-refused (Later b) = refl
 
--- A gate or an output in line 1.
-pub gate-first : (op : Operation) (p q : ℕ) → stepOf First (Gate op p q) ≡ Refuse 5
-unfolding stepOf firstRefusal formed? header? known? limited?
-gate-first op p q = refl
+  -- A name, a gate or an output in line 1.
+  pub name-first : (role : Role) (name : List ℕ) → stepOf seen (First role) (name-line name) ≡ Refuse 5
+  unfolding stepOf firstRefusal formed? header? known? limited?
+  name-first role name = refl
 
-pub output-first : (r : ℕ) → stepOf First (Output r) ≡ Refuse 5
-unfolding stepOf firstRefusal formed? header? known? limited?
-output-first r = refl
+  pub gate-first : (role : Role) (op : Operation) (p q : ℕ) → stepOf seen (First role) (gate-line op p q) ≡ Refuse 5
+  unfolding stepOf firstRefusal formed? header? known? limited?
+  gate-first role op p q = refl
 
--- Line 1 again.
-pub header-again : (b : Body) (e i g o : ℕ) → stepOf (Later b) (Header e i g o) ≡ Refuse 5
-unfolding stepOf firstRefusal formed? due? below?
-header-again b e i g o = refl
+  pub output-first : (role : Role) (r : ℕ) → stepOf seen (First role) (output-line r) ≡ Refuse 5
+  unfolding stepOf firstRefusal formed? header? known? limited?
+  output-first role r = refl
+
+  -- Line 1 again.
+  pub header-again : (b : Body) (e i g o : ℕ) → stepOf seen (Later b) (header-line e i g o) ≡ Refuse 5
+  unfolding stepOf firstRefusal formed? due? below? twice?
+  header-again b e i g o = refl
+
+-- In line 1, and in the lines of gates and outputs, the names in earlier lines decide nothing.
+pub first-unseen : (role : Role) (l : Line) → stepOf [] (First role) l ≡ stepOf [] (First role) (lineWith (kindOf l) [])
+unfolding stepOf firstRefusal formed? header? known? limited? dueAfter
+first-unseen role (header-line e i g o) = refl
+first-unseen role (name-line name) = refl
+first-unseen role (gate-line op p q) = refl
+first-unseen role (output-line r) = refl
+first-unseen role malformed-line = refl
+
+module _ (seen : List (List ℕ)) (b : Body) where
+  pub gate-unseen : (op : Operation) (p q : ℕ) → stepOf seen (Later b) (gate-line op p q) ≡ stepOf [] (Later b) (gate-line op p q)
+  unfolding stepOf firstRefusal formed? due? below? twice? dueAfter
+  gate-unseen op p q = refl
+
+  pub output-unseen : (r : ℕ) → stepOf seen (Later b) (output-line r) ≡ stepOf [] (Later b) (output-line r)
+  unfolding stepOf firstRefusal formed? due? below? twice? dueAfter
+  output-unseen r = refl
+
+-- A record that is no name's.
+abbrev pub NoName : Record → Type 0
+NoName (Header e i g o) = Unit
+NoName Name = ⊥
+NoName (Gate op p q) = Unit
+NoName (Output r) = Unit
+NoName Malformed = Unit
+
+-- A line that is no name's is told by its record.
+pub line-told : (l : Line) {r : Record} → kindOf l ≡ r → NoName r → l ≡ lineWith r []
+line-told (header-line e i g o) {r} h k = ap (λ (x : Record). lineWith x []) h
+line-told (name-line name) {r} h k = absurd (rw (← h) at k)
+line-told (gate-line op p q) {r} h k = ap (λ (x : Record). lineWith x []) h
+line-told (output-line x) {r} h k = ap (λ (x : Record). lineWith x []) h
+line-told malformed-line {r} h k = ap (λ (x : Record). lineWith x []) h
 
 -- The counts of line 1 within their limits.
 pub record Limited (i g o : ℕ) : Type 0 where
@@ -75,16 +122,39 @@ pub record Limited (i g o : ℕ) : Type 0 where
   pub some : 1 ≤ o
   pub outputs : o ≤ maxOutputs
 
-module _ (e i g o : ℕ) where
+-- An edition that a file of a pair may have: 1 or 2, and in the second file that of the first.
+pub record Known (role : Role) (e : ℕ) : Type 0 where
+  pub either : (e ≡ byPlace) ⊎ (e ≡ byName)
+  pub same : suits? role e ≡ true
+
+-- The test of it.
+module _ (role : Role) (e : ℕ) where
+  pub known-is : ((eqb e byPlace || eqb e byName) && suits? role e) ≡ true → Known role e
+  known-is h =
+      record {
+        either =
+            ⊎-elim (λ k. inl (eqb-true e byPlace k)) (λ k. inr (eqb-true e byName k))
+            (or-cases (eqb e byPlace) (eqb e byName) (and-left (eqb e byPlace || eqb e byName) (suits? role e) h));
+        same = and-right (eqb e byPlace || eqb e byName) (suits? role e) h;
+      }
+
+  pub unknown-is : ((eqb e byPlace || eqb e byName) && suits? role e) ≡ false → Known role e → ⊥
+  unknown-is h k =
+      let one : (eqb e byPlace || eqb e byName) ≡ true =
+      ⊎-elim (λ l. or-left (eqb e byPlace) (eqb e byName) (eq-eqb e byPlace l)) (λ l. or-right (eqb e byPlace) (eqb e byName) (eq-eqb e byName l))
+      (k .either) in
+      clash (rw one (k .same)) h
+
+module _ (seen : List (List ℕ)) (role : Role) (e i g o : ℕ) where
   -- What holds of each outcome of line 1, where it is reached, holds of the step.
   pub header-cases :
       (P : Stepped → Type 0)
-      → ((e ≡ edition → ⊥) → P (Refuse 3))
-      → (e ≡ edition → (Limited i g o → ⊥) → P (Refuse 4))
-      → (e ≡ edition → Limited i g o → P (Next (body i g o 0 0 0)))
-      → P (stepOf First (Header e i g o))
+      → ((Known role e → ⊥) → P (Refuse 3))
+      → (Known role e → (Limited i g o → ⊥) → P (Refuse 4))
+      → (Known role e → Limited i g o → P (Next (Later (afterHeader e i g o))))
+      → P (stepOf seen (First role) (header-line e i g o))
   unfolding stepOf firstRefusal formed? header? known? limited? dueAfter
-  header-cases P other beyond next = go (eqb e edition) (a && b && c && d) refl refl
+  header-cases P other beyond next = go ((eqb e byPlace || eqb e byName) && suits? role e) (a && b && c && d) refl refl
     where
       a : Bool
       a = leb i maxInputs
@@ -98,17 +168,17 @@ module _ (e i g o : ℕ) where
       d : Bool
       d = leb o maxOutputs
 
-      go : (x y : Bool) → eqb e edition ≡ x → (a && b && c && d) ≡ y
-          → P (cond (eqb (cond (not x) 3 (cond (not y) 4 0)) 0) (Next (body i g o 0 0 0)) (Refuse (cond (not x) 3 (cond (not y) 4 0))))
-      go false y h k = other (eqb-false e edition h)
+      go : (x y : Bool) → ((eqb e byPlace || eqb e byName) && suits? role e) ≡ x → (a && b && c && d) ≡ y
+          → P (cond (eqb (cond (not x) 3 (cond (not y) 4 0)) 0) (Next (Later (afterHeader e i g o))) (Refuse (cond (not x) 3 (cond (not y) 4 0))))
+      go false y h k = other (unknown-is role e h)
       go true false h k =
-          beyond (eqb-true e edition h)
+          beyond (known-is role e h)
           (λ l.
           clash (rw (le-leb i maxInputs (l .inputs), le-leb g maxGates (l .gates), le-leb 1 o (l .some)) (le-leb o maxOutputs (l .outputs))) k)
       go true true h k =
           let abc = and-left (a && b && c) d k in
           let ab = and-left (a && b) c abc in
-          next (eqb-true e edition h)
+          next (known-is role e h)
           (record {
             inputs = leb-true i maxInputs (and-left a b ab);
             gates = leb-true g maxGates (and-right a b ab);
@@ -117,16 +187,45 @@ module _ (e i g o : ℕ) where
           })
 
   -- Another edition.
-  pub header-edition : (e ≡ edition → ⊥) → stepOf First (Header e i g o) ≡ Refuse 3
+  pub header-edition : (Known role e → ⊥) → stepOf seen (First role) (header-line e i g o) ≡ Refuse 3
   header-edition h = header-cases (λ s. s ≡ Refuse 3) (λ k. refl) (λ k l. absurd (h k)) (λ k l. absurd (h k))
 
   -- A count beyond its limit.
-  pub header-beyond : e ≡ edition → (Limited i g o → ⊥) → stepOf First (Header e i g o) ≡ Refuse 4
+  pub header-beyond : Known role e → (Limited i g o → ⊥) → stepOf seen (First role) (header-line e i g o) ≡ Refuse 4
   header-beyond h k = header-cases (λ s. s ≡ Refuse 4) (λ l. absurd (l h)) (λ l m. refl) (λ l m. absurd (k m))
 
   -- A good line 1.
-  pub header-next : e ≡ edition → Limited i g o → stepOf First (Header e i g o) ≡ Next (body i g o 0 0 0)
-  header-next h k = header-cases (λ s. s ≡ Next (body i g o 0 0 0)) (λ l. absurd (l h)) (λ l m. absurd (m k)) (λ l m. refl)
+  pub header-next : Known role e → Limited i g o → stepOf seen (First role) (header-line e i g o) ≡ Next (Later (afterHeader e i g o))
+  header-next h k = header-cases (λ s. s ≡ Next (Later (afterHeader e i g o))) (λ l. absurd (l h)) (λ l m. absurd (m k)) (λ l m. refl)
+
+module _ (seen : List (List ℕ)) (b : Body) (name : List ℕ) where
+  -- The same of a name's line.
+  pub name-cases :
+      (P : Stepped → Type 0)
+      → (b .names ≤ b .name → P (Refuse 5))
+      → (b .name < b .names → Among name seen → P (Refuse 18))
+      → (b .name < b .names → (Among name seen → ⊥) → P (Next (Later (afterName b))))
+      → P (stepOf seen (Later b) (name-line name))
+  unfolding stepOf firstRefusal formed? due? below? twice? dueAfter
+  name-cases P extra again next = go (ltb (b .name) (b .names)) (among? name seen) refl refl
+    where
+      go : (x y : Bool) → ltb (b .name) (b .names) ≡ x → among? name seen ≡ y
+          → P (cond (eqb (cond (not x) 5 (cond y 18 0)) 0) (Next (Later (afterName b))) (Refuse (cond (not x) 5 (cond y 18 0))))
+      go false y h k = extra (ltb-false _ _ h)
+      go true true h k = again (ltb-true _ _ h) (place-among name seen (ltb-true _ _ k))
+      go true false h k = next (ltb-true _ _ h) (λ a. clash (lt-ltb (placeOf name seen) (length seen) (among-place a)) k)
+
+  -- A name where none is due.
+  pub name-extra : b .names ≤ b .name → stepOf seen (Later b) (name-line name) ≡ Refuse 5
+  name-extra h = name-cases (λ s. s ≡ Refuse 5) (λ k. refl) (λ k l. absurd (omega arith)) (λ k l. absurd (omega arith))
+
+  -- A name that stands in an earlier line.
+  pub name-twice : b .name < b .names → Among name seen → stepOf seen (Later b) (name-line name) ≡ Refuse 18
+  name-twice h k = name-cases (λ s. s ≡ Refuse 18) (λ l. absurd (omega arith)) (λ l m. refl) (λ l m. absurd (m k))
+
+  -- A good name.
+  pub name-next : b .name < b .names → (Among name seen → ⊥) → stepOf seen (Later b) (name-line name) ≡ Next (Later (afterName b))
+  name-next h k = name-cases (λ s. s ≡ Next (Later (afterName b))) (λ l. absurd (omega arith)) (λ l m. absurd (k m)) (λ l m. refl)
 
 -- A gate stands for at most three ANDs.
 pub ands-few : (op : Operation) → andsOf op ≤ 3
@@ -134,71 +233,80 @@ ands-few And = omega arith
 ands-few Or = omega arith
 ands-few Xor = omega arith
 
--- A gate that is due, with references below it.
-pub record GateFits (b : Body) (p q : ℕ) : Type 0 where
+-- A gate is due where the names are read and gates are left.
+pub record GateDue (b : Body) : Type 0 where
+  pub names : b .name ≡ b .names
   pub room : b .gate < b .gates
+
+-- Its references are below it.
+pub record GateFits (b : Body) (p q : ℕ) : Type 0 where
   pub left : p < 2 * (1 + b .inputs + b .gate)
   pub right : q < 2 * (1 + b .inputs + b .gate)
 
-module _ (b : Body) (op : Operation) (p q : ℕ) where
+module _ (seen : List (List ℕ)) (b : Body) (op : Operation) (p q : ℕ) where
   -- The same of a gate line.
   pub gate-cases :
       (P : Stepped → Type 0)
-      → (b .gates ≤ b .gate → P (Refuse 5))
-      → (b .gate < b .gates → (GateFits b p q → ⊥) → P (Refuse 6))
-      → (GateFits b p q → P (Next (body (b .inputs) (b .gates) (b .outputs) (b .gate + 1) (b .output) (b .ands + andsOf op))))
-      → P (stepOf (Later b) (Gate op p q))
-  unfolding stepOf firstRefusal formed? due? below? dueAfter
-  gate-cases P extra beyond next = go (ltb (b .gate) (b .gates)) (ltb p n && ltb q n) refl refl
+      → ((GateDue b → ⊥) → P (Refuse 5))
+      → (GateDue b → (GateFits b p q → ⊥) → P (Refuse 6))
+      → (GateDue b → GateFits b p q → P (Next (Later (afterGate op b))))
+      → P (stepOf seen (Later b) (gate-line op p q))
+  unfolding stepOf firstRefusal formed? due? below? twice? dueAfter
+  gate-cases P extra beyond next = go (named && more) (ltb p n && ltb q n) refl refl
     where
       n : ℕ
       n = 2 * (1 + b .inputs + b .gate)
 
-      passed : Due
-      passed = body (b .inputs) (b .gates) (b .outputs) (b .gate + 1) (b .output) (b .ands + andsOf op)
+      named : Bool
+      named = eqb (b .name) (b .names)
 
-      go : (x y : Bool) → ltb (b .gate) (b .gates) ≡ x → (ltb p n && ltb q n) ≡ y
-          → P (cond (eqb (cond (not x) 5 (cond (not y) 6 0)) 0) (Next passed) (Refuse (cond (not x) 5 (cond (not y) 6 0))))
-      go false y h k = extra (ltb-false _ _ h)
-      go true false h k = beyond (ltb-true _ _ h) (λ f. clash (rw (lt-ltb p n (f .left)) (lt-ltb q n (f .right))) k)
+      more : Bool
+      more = ltb (b .gate) (b .gates)
+
+      due : (named && more) ≡ true → GateDue b
+      due h = record { names = eqb-true _ _ (and-left named more h); room = ltb-true _ _ (and-right named more h) }
+
+      go : (x y : Bool) → (named && more) ≡ x → (ltb p n && ltb q n) ≡ y
+          → P (cond (eqb (cond (not x) 5 (cond (not y) 6 0)) 0) (Next (Later (afterGate op b))) (Refuse (cond (not x) 5 (cond (not y) 6 0))))
+      go false y h k = extra (λ f. clash (rw (eq-eqb _ _ (f .names)) (lt-ltb _ _ (f .room))) h)
+      go true false h k = beyond (due h) (λ f. clash (rw (lt-ltb p n (f .left)) (lt-ltb q n (f .right))) k)
       go true true h k =
-          next
-          (record { room = ltb-true _ _ h; left = ltb-true p n (and-left (ltb p n) (ltb q n) k); right = ltb-true q n (and-right (ltb p n) (ltb q n) k) })
+          next (due h) (record { left = ltb-true p n (and-left (ltb p n) (ltb q n) k); right = ltb-true q n (and-right (ltb p n) (ltb q n) k) })
 
   -- A gate where none is due.
-  pub gate-extra : b .gates ≤ b .gate → stepOf (Later b) (Gate op p q) ≡ Refuse 5
-  gate-extra h = gate-cases (λ s. s ≡ Refuse 5) (λ k. refl) (λ k l. absurd (omega arith)) (λ f. absurd (omega arith))
+  pub gate-extra : (GateDue b → ⊥) → stepOf seen (Later b) (gate-line op p q) ≡ Refuse 5
+  gate-extra h = gate-cases (λ s. s ≡ Refuse 5) (λ k. refl) (λ k l. absurd (h k)) (λ k l. absurd (h k))
 
   -- A reference that is not below its gate.
-  pub gate-beyond : b .gate < b .gates → (GateFits b p q → ⊥) → stepOf (Later b) (Gate op p q) ≡ Refuse 6
-  gate-beyond h k = gate-cases (λ s. s ≡ Refuse 6) (λ l. absurd (omega arith)) (λ l m. refl) (λ f. absurd (k f))
+  pub gate-beyond : GateDue b → (GateFits b p q → ⊥) → stepOf seen (Later b) (gate-line op p q) ≡ Refuse 6
+  gate-beyond h k = gate-cases (λ s. s ≡ Refuse 6) (λ l. absurd (l h)) (λ l m. refl) (λ l m. absurd (k m))
 
   -- A good gate.
-  pub gate-next :
-      GateFits b p q → stepOf (Later b) (Gate op p q) ≡ Next (body (b .inputs) (b .gates) (b .outputs) (b .gate + 1) (b .output) (b .ands + andsOf op))
-  gate-next h =
-      gate-cases (λ s. s ≡ Next (body (b .inputs) (b .gates) (b .outputs) (b .gate + 1) (b .output) (b .ands + andsOf op)))
-      (λ l. absurd (omega (arith, h .room))) (λ l m. absurd (m h)) (λ f. refl)
+  pub gate-next : GateDue b → GateFits b p q → stepOf seen (Later b) (gate-line op p q) ≡ Next (Later (afterGate op b))
+  gate-next h k = gate-cases (λ s. s ≡ Next (Later (afterGate op b))) (λ l. absurd (l h)) (λ l m. absurd (m k)) (λ l m. refl)
 
--- An output is due where the gates are read and outputs are left.
+-- An output is due where the names and gates are read and outputs are left.
 pub record OutputDue (b : Body) : Type 0 where
+  pub names : b .name ≡ b .names
   pub gates : b .gate ≡ b .gates
   pub room : b .output < b .outputs
 
-module _ (b : Body) (r : ℕ) where
+module _ (seen : List (List ℕ)) (b : Body) (r : ℕ) where
   -- The same of an output line.
   pub output-cases :
       (P : Stepped → Type 0)
       → ((OutputDue b → ⊥) → P (Refuse 5))
       → (OutputDue b → 2 * (1 + b .inputs + b .gates) ≤ r → P (Refuse 6))
-      → (OutputDue b → r < 2 * (1 + b .inputs + b .gates)
-      → P (Next (body (b .inputs) (b .gates) (b .outputs) (b .gate) (b .output + 1) (b .ands))))
-      → P (stepOf (Later b) (Output r))
-  unfolding stepOf firstRefusal formed? due? below? dueAfter
-  output-cases P extra beyond next = go (room && more) (ltb r n) refl refl
+      → (OutputDue b → r < 2 * (1 + b .inputs + b .gates) → P (Next (Later (afterOutput b))))
+      → P (stepOf seen (Later b) (output-line r))
+  unfolding stepOf firstRefusal formed? due? below? twice? dueAfter
+  output-cases P extra beyond next = go (named && room && more) (ltb r n) refl refl
     where
       n : ℕ
       n = 2 * (1 + b .inputs + b .gates)
+
+      named : Bool
+      named = eqb (b .name) (b .names)
 
       room : Bool
       room = eqb (b .gate) (b .gates)
@@ -206,38 +314,36 @@ module _ (b : Body) (r : ℕ) where
       more : Bool
       more = ltb (b .output) (b .outputs)
 
-      passed : Due
-      passed = body (b .inputs) (b .gates) (b .outputs) (b .gate) (b .output + 1) (b .ands)
+      due : (named && room && more) ≡ true → OutputDue b
+      due h =
+          let both = and-left (named && room) more h in
+          record {
+            names = eqb-true _ _ (and-left named room both);
+            gates = eqb-true _ _ (and-right named room both);
+            room = ltb-true _ _ (and-right (named && room) more h);
+          }
 
-      go : (x y : Bool) → (room && more) ≡ x → ltb r n ≡ y
-          → P (cond (eqb (cond (not x) 5 (cond (not y) 6 0)) 0) (Next passed) (Refuse (cond (not x) 5 (cond (not y) 6 0))))
-      go false y h k = extra (λ f. clash (rw (eq-eqb _ _ (f .gates)) (lt-ltb _ _ (f .room))) h)
-      go true y h k =
-          let due : OutputDue b = record { gates = eqb-true _ _ (and-left room more h); room = ltb-true _ _ (and-right room more h) } in
-          test y k due
-        where
-          test : (y : Bool) → ltb r n ≡ y → OutputDue b → P (cond (eqb (cond (not y) 6 0) 0) (Next passed) (Refuse (cond (not y) 6 0)))
-          test false k due = beyond due (ltb-false _ _ k)
-          test true k due = next due (ltb-true _ _ k)
+      go : (x y : Bool) → (named && room && more) ≡ x → ltb r n ≡ y
+          → P (cond (eqb (cond (not x) 5 (cond (not y) 6 0)) 0) (Next (Later (afterOutput b))) (Refuse (cond (not x) 5 (cond (not y) 6 0))))
+      go false y h k = extra (λ f. clash (rw (eq-eqb _ _ (f .names), eq-eqb _ _ (f .gates)) (lt-ltb _ _ (f .room))) h)
+      go true false h k = beyond (due h) (ltb-false _ _ k)
+      go true true h k = next (due h) (ltb-true _ _ k)
 
   -- An output where none is due.
-  pub output-extra : (OutputDue b → ⊥) → stepOf (Later b) (Output r) ≡ Refuse 5
+  pub output-extra : (OutputDue b → ⊥) → stepOf seen (Later b) (output-line r) ≡ Refuse 5
   output-extra h = output-cases (λ s. s ≡ Refuse 5) (λ k. refl) (λ k l. absurd (h k)) (λ k l. absurd (h k))
 
   -- A reference that is not below twice the number of vertices.
-  pub output-beyond : OutputDue b → 2 * (1 + b .inputs + b .gates) ≤ r → stepOf (Later b) (Output r) ≡ Refuse 6
+  pub output-beyond : OutputDue b → 2 * (1 + b .inputs + b .gates) ≤ r → stepOf seen (Later b) (output-line r) ≡ Refuse 6
   output-beyond h k = output-cases (λ s. s ≡ Refuse 6) (λ l. absurd (l h)) (λ l m. refl) (λ l m. absurd (omega arith))
 
   -- A good output.
-  pub output-next :
-      OutputDue b → r < 2 * (1 + b .inputs + b .gates)
-      → stepOf (Later b) (Output r) ≡ Next (body (b .inputs) (b .gates) (b .outputs) (b .gate) (b .output + 1) (b .ands))
-  output-next h k =
-      output-cases (λ s. s ≡ Next (body (b .inputs) (b .gates) (b .outputs) (b .gate) (b .output + 1) (b .ands)))
-      (λ l. absurd (l h)) (λ l m. absurd (omega arith)) (λ l m. refl)
+  pub output-next : OutputDue b → r < 2 * (1 + b .inputs + b .gates) → stepOf seen (Later b) (output-line r) ≡ Next (Later (afterOutput b))
+  output-next h k = output-cases (λ s. s ≡ Next (Later (afterOutput b))) (λ l. absurd (l h)) (λ l m. absurd (omega arith)) (λ l m. refl)
 
 -- All that was due was there.
 pub record Done (b : Body) : Type 0 where
+  pub names : b .name ≡ b .names
   pub gates : b .gate ≡ b .gates
   pub outputs : b .output ≡ b .outputs
 
@@ -245,17 +351,28 @@ module _ (n : ℕ) (b : Body) where
   -- The same of the end.
   pub finish-cases : (P : Answer → Type 0) → ((Done b → ⊥) → P (refused 5 n)) → (Done b → P (accepted (countsOf (Later b)))) → P (finish n (Later b))
   unfolding finish firstRefusal more?
-  finish-cases P missing all = go (gates && outputs) refl
+  finish-cases P missing all = go (names && gates && outputs) refl
     where
+      names : Bool
+      names = eqb (b .name) (b .names)
+
       gates : Bool
       gates = eqb (b .gate) (b .gates)
 
       outputs : Bool
       outputs = eqb (b .output) (b .outputs)
 
-      go : (x : Bool) → (gates && outputs) ≡ x → P (cond (eqb (cond (not x) 5 0) 0) (accepted (countsOf (Later b))) (refused (cond (not x) 5 0) n))
-      go true h = all (record { gates = eqb-true _ _ (and-left gates outputs h); outputs = eqb-true _ _ (and-right gates outputs h) })
-      go false h = missing (λ d. clash (rw (eq-eqb _ _ (d .gates)) (eq-eqb _ _ (d .outputs))) h)
+      go : (x : Bool) → (names && gates && outputs) ≡ x
+          → P (cond (eqb (cond (not x) 5 0) 0) (accepted (countsOf (Later b))) (refused (cond (not x) 5 0) n))
+      go true h =
+          let both = and-left (names && gates) outputs h in
+          all
+          (record {
+            names = eqb-true _ _ (and-left names gates both);
+            gates = eqb-true _ _ (and-right names gates both);
+            outputs = eqb-true _ _ (and-right (names && gates) outputs h);
+          })
+      go false h = missing (λ d. clash (rw (eq-eqb _ _ (d .names), eq-eqb _ _ (d .gates)) (eq-eqb _ _ (d .outputs))) h)
 
   -- A line is missing.
   pub finish-missing : (Done b → ⊥) → finish n (Later b) ≡ refused 5 n

@@ -1,20 +1,21 @@
 -- Lines and their records.
 use Prim.Native.Nat.{ℕ}
+use Rattle.netlist_model.specs.Limits.{maxName}
 use Rattle.netlist_model.specs.declared.Operation.the-variants.{And, Or, Xor}
 use Rattle.netlist_model.specs.declared.Operation.{Operation}
 use Rattle.netlist_model.specs.declared.OperationField.the-variants.{Named, Unknown}
 use Rattle.netlist_model.specs.declared.OperationField.{OperationField}
-use Rattle.netlist_model.specs.declared.Record.the-variants.{Gate, Header, Malformed, Output}
+use Rattle.netlist_model.specs.declared.Record.the-variants.{Gate, Header, Malformed, Name, Output}
 use Rattle.netlist_model.specs.declared.Record.{Record}
 use Rattle.text.specs.Bytes.{sameBytes}
 use Rattle.text.specs.Numerals.{numeralOf}
 use Rattle.text.specs.Split.{splitAt}
 use Rattle.text.specs.declared.numerals.Numeral.the-variants.{Malformed as Unread, Value}
 use Rattle.text.specs.declared.numerals.Numeral.{Numeral}
-use lib.Dec.{eqb}
+use lib.Dec.{eqb, leb}
 use lib.ListN.{getD, length}
-use mathlib.Core.Bool.{Bool, _&&_, cond}
-use mathlib.Core.List.{List, [], _∷_}
+use mathlib.Core.Bool.{Bool, _&&_, _||_, cond, true}
+use mathlib.Core.List.{List, [], _∷_, map}
 
 -- "where op is exactly the bytes `and`, `or` or `xor`" (RULES 1.4)
 abbrev pub operationBytes : Operation → List ℕ
@@ -37,6 +38,22 @@ headerOf (Value e) (Value i) Unread o = Malformed
 headerOf (Value e) Unread g o = Malformed
 headerOf Unread i g o = Malformed
 
+-- "each `0`-`9`, `A`-`Z` or `a`-`z`" (RULES 1.12)
+abbrev pub letterOrDigit? : ℕ → Bool
+letterOrDigit? b = (leb 48 b && leb b 57) || (leb 65 b && leb b 90) || (leb 97 b && leb b 122)
+
+abbrev pub lettersOrDigits? : List ℕ → Bool
+lettersOrDigits? [] = true
+lettersOrDigits? (b ∷ bs) = letterOrDigit? b && lettersOrDigits? bs
+
+-- "the name 1 to 16 ASCII letters or digits": whether a field is a name. (RULES 1.12)
+unfoldable pub name? : List ℕ → Bool
+name? s = leb 1 (length s) && leb (length s) maxName && lettersOrDigits? s
+
+-- "a line `I⇥name` for each input" (RULES 1.12)
+abbrev pub nameOf : Bool → Record
+nameOf b = cond b Name Malformed
+
 -- "Then one line a gate: `G⇥op⇥p⇥q`" (RULES 1.4)
 abbrev pub gateOf : OperationField → Numeral → Numeral → Record
 gateOf (Named op) (Value p) (Value q) = Gate op p q
@@ -57,34 +74,73 @@ laidOut n letter fs = eqb (length fs) n && sameBytes (getD fs 0 []) letter
 abbrev pub headerIn : List (List ℕ) → Record
 headerIn fs = headerOf (numeralOf (getD fs 1 [])) (numeralOf (getD fs 2 [])) (numeralOf (getD fs 3 [])) (numeralOf (getD fs 4 []))
 
+abbrev pub nameIn : List (List ℕ) → Record
+nameIn fs = nameOf (name? (getD fs 1 []))
+
 abbrev pub gateIn : List (List ℕ) → Record
 gateIn fs = gateOf (operationOf (getD fs 1 [])) (numeralOf (getD fs 2 [])) (numeralOf (getD fs 3 []))
 
 abbrev pub outputIn : List (List ℕ) → Record
 outputIn fs = outputOf (numeralOf (getD fs 1 []))
 
--- "an N, G or O record of this layout": the record of a line's fields. (RULES 8.1)
+-- "an N, I, G or O record of this layout": the record of a line's fields. (RULES 8.1)
 unfoldable pub fieldsRecord : List (List ℕ) → Record
 fieldsRecord fs =
     cond (laidOut 5 (78 ∷ []) fs) (headerIn fs)
+    (cond (laidOut 2 (73 ∷ []) fs) (nameIn fs)
     (cond (laidOut 4 (71 ∷ []) fs) (gateIn fs)
-    (cond (laidOut 2 (79 ∷ []) fs) (outputIn fs) Malformed))
+    (cond (laidOut 2 (79 ∷ []) fs) (outputIn fs) Malformed)))
 
 -- "fields parted by one tab (byte 9)": the record of a line without its end byte. (RULES 1.1)
 unfoldable pub recordOf : List ℕ → Record
 recordOf line = fieldsRecord (splitAt 9 line)
 
+-- A line: its record, and in an I record its name too, which the code reads again from the line.
+pub data Line : Type 0 where
+  header-line : ℕ → ℕ → ℕ → ℕ → Line
+  name-line : List ℕ → Line
+  gate-line : Operation → ℕ → ℕ → Line
+  output-line : ℕ → Line
+  malformed-line : Line
+
+-- Its record.
+abbrev pub kindOf : Line → Record
+kindOf (header-line e i g o) = Header e i g o
+kindOf (name-line name) = Name
+kindOf (gate-line op p q) = Gate op p q
+kindOf (output-line r) = Output r
+kindOf malformed-line = Malformed
+
+-- The line with a record and its fields.
+abbrev pub lineWith : Record → List (List ℕ) → Line
+lineWith (Header e i g o) fs = header-line e i g o
+lineWith Name fs = name-line (getD fs 1 [])
+lineWith (Gate op p q) fs = gate-line op p q
+lineWith (Output r) fs = output-line r
+lineWith Malformed fs = malformed-line
+
+-- A line without its end byte.
+unfoldable pub lineOf : List ℕ → Line
+lineOf line = lineWith (recordOf line) (splitAt 9 line)
+
 -- "or has no end byte": what stands after the last byte 10 is such a line, if it is not empty. (RULES 8.1)
-unfoldable pub unended : List ℕ → List Record
+unfoldable pub unended : List ℕ → List Line
 unended [] = []
-unended (b ∷ bs) = Malformed ∷ []
+unended (b ∷ bs) = malformed-line ∷ []
 
--- "each line ended by byte 10": the records of the parts that the end bytes cut a file into. (RULES 1.1)
-unfoldable pub recordsOf : List (List ℕ) → List Record
-recordsOf [] = []
-recordsOf (line ∷ []) = unended line
-recordsOf (line ∷ (next ∷ lines)) = recordOf line ∷ recordsOf (next ∷ lines)
+-- "each line ended by byte 10": the lines of the parts that the end bytes cut a file into. (RULES 1.1)
+unfoldable pub partLines : List (List ℕ) → List Line
+partLines [] = []
+partLines (line ∷ []) = unended line
+partLines (line ∷ (next ∷ lines)) = lineOf line ∷ partLines (next ∷ lines)
 
--- The records of a file's lines.
-unfoldable pub fileRecords : List ℕ → List Record
-fileRecords bytes = recordsOf (splitAt 10 bytes)
+-- The lines of a file.
+unfoldable pub fileLines : List ℕ → List Line
+fileLines bytes = partLines (splitAt 10 bytes)
+
+-- The records of lines.
+abbrev pub recordsIn : List Line → List Record
+recordsIn ls = map kindOf ls
+
+abbrev pub fileRecords : List ℕ → List Record
+fileRecords bytes = recordsIn (fileLines bytes)

@@ -1,2 +1,2 @@
-pub mod Accepted
 pub mod Passing
+pub mod Accepted

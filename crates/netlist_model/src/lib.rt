@@ -1,10 +1,22 @@
-// Drawing files, edition 1: what their records, a whole file's check and the netlist that it holds are.
+// Drawing files of both editions: what their records, a whole file's check and the netlist that it holds are.
 
-pub const EDITION: u32 = 1;
+// The editions: inputs paired by place, and by name.
+pub const BY_PLACE: u32 = 1;
+
+pub const BY_NAME: u32 = 2;
 
 pub const MAX_BYTES: usize = 65536;
 
 pub const MAX_GATES: u32 = 4096;
+
+// The most bytes of an input's name.
+pub const MAX_NAME: usize = 16;
+
+// Which file of a pair it is: the first, or the second of a pair whose first file has this edition.
+pub enum Role {
+    First,
+    Second(u32),
+}
 
 pub enum Operation {
     And,
@@ -18,7 +30,7 @@ pub enum OperationField {
     Unknown,
 }
 
-// What a line is.
+// What a line is. An input's name is no part of it: it is read again from its line.
 pub enum Record {
     Header {
         edition: u32,
@@ -26,6 +38,7 @@ pub enum Record {
         gates: u32,
         outputs: u32,
     },
+    Name,
     Gate {
         op: Operation,
         p: u32,
@@ -35,19 +48,23 @@ pub enum Record {
     Malformed,
 }
 
-// The counts of line 1, the numbers of gates and outputs read so far, and the ANDs that these gates stand for.
+// The edition and the counts of line 1, how many names it makes due, the numbers of names, gates and outputs read so far, and the ANDs that
+// these gates stand for.
 pub struct Body {
+    pub edition: u32,
     pub inputs: u32,
+    pub names: u32,
     pub gates: u32,
     pub outputs: u32,
+    pub name: u32,
     pub gate: u32,
     pub output: u32,
     pub ands: u32,
 }
 
-// What is due: line 1, or a line after it.
+// What is due: line 1 of a file, or a line after it.
 pub enum Due {
-    First,
+    First(Role),
     Later(Body),
 }
 
@@ -59,7 +76,9 @@ pub enum Stepped {
 
 // What an accepted file has; `start` is where its gate lines start.
 pub struct Summary {
+    pub edition: u32,
     pub inputs: u32,
+    pub names: u32,
     pub gates: u32,
     pub outputs: u32,
     pub ands: u32,

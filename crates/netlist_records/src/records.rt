@@ -1,7 +1,9 @@
 // The records of lines.
-ghost use Rattle.netlist_model.specs.Records.{gateIn, gateOf, headerIn, headerOf, laidOut, operationOf, outputIn, recordOf};
+ghost use Rattle.netlist_model.specs.Records.{gateIn, gateOf, headerIn, headerOf, laidOut, letterOrDigit?, lettersOrDigits?, lineOf, name-line, name?, nameIn, operationOf, outputIn, recordOf};
 ghost use Rattle.text.specs.Split.{splitAt};
+ghost use lib.Dec.{leb};
 ghost use lib.ListN.{length};
+ghost use mathlib.Core.Bool.{_&&_};
 ghost use mathlib.Core.Path.{_≡_};
 use netlist_model::Operation;
 use netlist_model::OperationField;
@@ -17,6 +19,9 @@ pub fn read_record(line: &[u8]) -> Record
     if is_laid_out(line, 5, b"N") {
         return read_header(line);
     }
+    if is_laid_out(line, 2, b"I") {
+        return read_name(line);
+    }
     if is_laid_out(line, 4, b"G") {
         return read_gate(line);
     }
@@ -24,6 +29,14 @@ pub fn read_record(line: &[u8]) -> Record
         return read_output(line);
     }
     Record::Malformed
+}
+
+// The name in the line of an I record, without its end byte.
+pub fn name_in(line: &[u8]) -> &[u8]
+    requires { ⌜ recordOf (now line) ≡ Record.Name ⌝ }
+    ensures { λ r. ⌜ name-line (now r) ≡ lineOf (now (line .entry)) ⌝ }
+{
+    text::part(line, 1, TAB)
 }
 
 // The operation that a field names.
@@ -61,6 +74,64 @@ fn read_header(line: &[u8]) -> Record
     let gates = text::parse(text::part(line, 3, TAB));
     let outputs = text::parse(text::part(line, 4, TAB));
     header_of(edition, inputs, gates, outputs)
+}
+
+fn read_name(line: &[u8]) -> Record
+    requires { ⌜ length (splitAt 9 (now line)) ≡ 2 ⌝ }
+    ensures { λ r. ⌜ r ≡ nameIn (splitAt 9 (now (line .entry))) ⌝ }
+{
+    if is_name(text::part(line, 1, TAB)) {
+        return Record::Name;
+    }
+    Record::Malformed
+}
+
+// Whether a field is a name.
+fn is_name(field: &[u8]) -> bool
+    ensures { λ r. ⌜ r ≡ name? (now (field .entry)) ⌝ }
+{
+    if field.len() < 1 {
+        return false;
+    }
+    if netlist_model::MAX_NAME < field.len() {
+        return false;
+    }
+    has_letters_and_digits(field)
+}
+
+// Whether all bytes are letters or digits.
+fn has_letters_and_digits(field: &[u8]) -> bool
+    ensures { λ r. ⌜ r ≡ lettersOrDigits? (now (field .entry)) ⌝ }
+{
+    let mut i = 0;
+    while i < field.len() {
+        if !is_letter_or_digit(field[i]) {
+            return false;
+        }
+        i += 1;
+    }
+    true
+}
+
+fn is_letter_or_digit(b: u8) -> bool
+    ensures { λ r. ⌜ r ≡ letterOrDigit? b ⌝ }
+{
+    if is_between(b'0', b, b'9') {
+        return true;
+    }
+    if is_between(b'A', b, b'Z') {
+        return true;
+    }
+    is_between(b'a', b, b'z')
+}
+
+fn is_between(least: u8, b: u8, most: u8) -> bool
+    ensures { λ r. ⌜ r ≡ leb least b && leb b most ⌝ }
+{
+    if b < least {
+        return false;
+    }
+    b <= most
 }
 
 fn read_gate(line: &[u8]) -> Record

@@ -1,30 +1,63 @@
 -- What an accepted file holds.
-use Prim.Native.Nat.{_+_, _≤_, ℕ}
-use Rattle.netlist_model.specs.Check.{Counts, read, readNetlist}
+use Prim.Native.Nat.{_≤_, ℕ}
+use Rattle.netlist_model.specs.Check.{Counts, netlistIn, read, readNetlist, summaryCounts}
 use Rattle.netlist_model.specs.Meaning.{andCount}
-use Rattle.netlist_model.specs.Netlist.{Netlist, Within, bodyRecords, bytesOf, netlistRecords}
-use Rattle.netlist_model.specs.Records.{fileRecords}
+use Rattle.netlist_model.specs.Netlist.{Netlist, Within, bodyRecords, bytesOf, netlistLines}
+use Rattle.netlist_model.specs.Records.{fileLines, fileRecords}
+use Rattle.netlist_model.specs.code.Passing.{gatesAt}
+use Rattle.netlist_model.specs.declared.Role.the-variants as role
+use Rattle.netlist_model.specs.declared.Role.the-variants.{Second}
+use Rattle.netlist_model.specs.declared.Role.{Role}
 use Rattle.netlist_model.specs.declared.Summary.{Summary}
-use Rattle.text.specs.Split.{upTo}
 use lib.ListN.{drop, length}
 use mathlib.Core.List.{List}
 use mathlib.Core.Path.{_≡_}
 
+-- The edition of a file suits its role: in a second file it is that of the first. (RULES 8.1)
+abbrev pub Suits : Role → ℕ → Type 0
+Suits role.First e = Unit
+Suits (Second first) e = e ≡ first
+
 -- The counts of a netlist.
 abbrev pub countsIn : Netlist → Counts
-countsIn d = record { inputs = d .inputs; gates = length (d .gates); outputs = length (d .outputs); ands = andCount (d .gates) }
+countsIn d =
+    record {
+      edition = d .edition;
+      inputs = d .inputs;
+      names = length (d .names);
+      gates = length (d .gates);
+      outputs = length (d .outputs);
+      ands = andCount (d .gates);
+    }
 
--- The same with the place at which the gate lines start.
-abbrev pub summaryOf : ℕ → Netlist → Summary
-summaryOf start d =
-    record { inputs = d .inputs; gates = length (d .gates); outputs = length (d .outputs); ands = andCount (d .gates); start = start }
+-- Counts with the place at which the gate lines start.
+abbrev pub summaryWith : ℕ → Counts → Summary
+summaryWith start c =
+    record {
+      edition = c .edition;
+      inputs = c .inputs;
+      names = c .names;
+      gates = c .gates;
+      outputs = c .outputs;
+      ands = c .ands;
+      start = start;
+    }
 
--- A file with a summary holds a netlist: it is read as that netlist, is its bytes, keeps the limits, and its gate lines start after line 1.
+-- The netlist that an accepted file holds.
+unfoldable pub netlistOf : List ℕ → Summary → Netlist
+netlistOf file s = netlistIn (summaryCounts s) (fileLines file)
+
+-- A file with a summary holds a netlist: it is its bytes, keeps the limits, and its gate lines start after line 1 and the names.
 pub record HoldsNetlist (bytes : List ℕ) (s : Summary) (d : Netlist) : Type 0 where
-  pub reads : readNetlist bytes ≡ read d
   pub file : bytes ≡ bytesOf d
   pub within : Within d
-  pub counts : s ≡ summaryOf (length (upTo 10 bytes) + 1) d
-  pub records : fileRecords bytes ≡ netlistRecords d
+  pub counts : s ≡ summaryWith (gatesAt bytes (length (d .names))) (countsIn d)
+  pub lines : fileLines bytes ≡ netlistLines d
   pub inside : s .start ≤ length bytes
   pub body : fileRecords (drop (s .start) bytes) ≡ bodyRecords d
+
+-- And it is read as that netlist.
+pub record ReadAs (role : Role) (bytes : List ℕ) (s : Summary) (d : Netlist) : Type 0 where
+  pub reads : readNetlist role bytes ≡ read d
+  pub edition : Suits role (d .edition)
+  pub holds : HoldsNetlist bytes s d

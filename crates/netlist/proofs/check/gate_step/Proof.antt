@@ -4,11 +4,15 @@ use Rattle.netlist_model.proofs.StepLaws.{ands-few, gate-beyond, gate-extra, ga
 use Rattle.netlist.proofs.check.gate_step.Statement.{statement}
 use Rattle.netlist.proofs.check.gate_step.Tie as tie
 use borrow.Author.Needs.{needs}
+use mathlib.Core.List.{[]}
 use mathlib.Core.Path.{sym}
 use native.Mathlib.Omega.{arith}
 
 returns : tie.Need-returns
-returns c = sym (gate-extra _ _ _ _ (c .if1 .taken))
+returns c = sym (gate-extra [] _ _ _ _ (λ d. c .if1 .taken (d .names)))
+
+returns-2 : tie.Need-returns-2
+returns-2 c = sym (gate-extra [] _ _ _ _ (λ d. omega (arith, d .room, c .if2 .taken)))
 
 add-bound : tie.Need-add-bound
 add-bound c = search needs
@@ -19,11 +23,15 @@ add-bound-2 c = search needs
 mul-bound : tie.Need-mul-bound
 mul-bound c = search needs
 
-returns-2 : tie.Need-returns-2
-returns-2 c = sym (gate-beyond _ _ _ _ (c .before .before .before .if1 .left) (λ f. omega (arith, f .left, c .if2 .taken)))
-
 returns-3 : tie.Need-returns-3
-returns-3 c = sym (gate-beyond _ _ _ _ (c .before .before .before .before .if1 .left) (λ f. omega (arith, f .right, c .if3 .taken)))
+returns-3 c =
+    let at2 = c .before .before .before in
+    sym (gate-beyond [] _ _ _ _ (record { names = at2 .before .before .if1 .left; room = at2 .if2 .left }) (λ f. omega (arith, f .left, c .if3 .taken)))
+
+returns-4 : tie.Need-returns-4
+returns-4 c =
+    let at2 = c .before .before .before .before in
+    sym (gate-beyond [] _ _ _ _ (record { names = at2 .before .before .if1 .left; room = at2 .if2 .left }) (λ f. omega (arith, f .right, c .if4 .taken)))
 
 add-t8 : tie.Need-add-t8
 add-t8 c = search needs
@@ -33,26 +41,31 @@ ands-of-requires c κs = search needs
 
 add-t9 : tie.Need-add-t9
 add-t9 c =
-    let op = c .before .before .before .before .before .before .before .before .before .args .op in
-    omega (arith, c .before .ands-of .ensures, ands-few op)
+    let at2 = c .before .before .before .before .before .before .before in
+    let entry = at2 .before .before .before .before in
+    omega (arith, c .before .ands-of .ensures, ands-few (entry .args .op), entry .pre .ands, entry .pre .gate, entry .pre .gates)
 
-returns-4 : tie.Need-returns-4
-returns-4 c =
-    let at1 = c .before .before .before .before .before .before .before in
+returns-5 : tie.Need-returns-5
+returns-5 c =
+    let at4 = c .before .before .before in
+    let at2 = at4 .before .before .before .before in
     rw (c .before .ands-of .ensures)
-    (sym (gate-next _ _ _ _ (record { room = at1 .if1 .left; left = search needs; right = search needs })))
+    (sym
+    (gate-next [] _ _ _ _ (record { names = at2 .before .before .if1 .left; room = at2 .if2 .left })
+    (record { left = at4 .before .if3 .left; right = at4 .if4 .left })))
 
 pub gate-step-spec : {M : Type 1} → statement M
 gate-step-spec =
     tie.close
     (tie.spec
     returns
+    returns-2
     add-bound
     add-bound-2
     mul-bound
-    returns-2
     returns-3
+    returns-4
     add-t8
     ands-of-requires
     add-t9
-    returns-4)
+    returns-5)

@@ -28,17 +28,17 @@ slice-aggregate-is-laid-out-2 c = search needs
 is-laid-out-requires-2 : tie.Need-is-laid-out-requires-2
 is-laid-out-requires-2 c κs = search needs
 
-read-gate-requires : tie.Need-read-gate-requires
-read-gate-requires c κs =
+read-name-requires : tie.Need-read-name-requires
+read-name-requires c κs =
     let at1 = c .before .before .before in
-    laid-out-count 4 (71 ∷ []) (splitAt 9 (at1 .before .before .before .before .args .line .now)) (sym (c .before .is-laid-out2 .ensures) ∙ c .if2 .taken)
+    laid-out-count 2 (73 ∷ []) (splitAt 9 (at1 .before .before .before .before .args .line .now)) (sym (c .before .is-laid-out2 .ensures) ∙ c .if2 .taken)
 
 returns-2 : tie.Need-returns-2
 unfolding recordOf fieldsRecord
 returns-2 c =
     let at2 = c .before in
     let at1 = at2 .before .before .before in
-    rw (sym (at1 .before .is-laid-out .ensures) ∙ at1 .if1 .left, sym (at2 .before .is-laid-out2 .ensures) ∙ at2 .if2 .taken) (c .read-gate .ensures)
+    rw (sym (at1 .before .is-laid-out .ensures) ∙ at1 .if1 .left, sym (at2 .before .is-laid-out2 .ensures) ∙ at2 .if2 .taken) (c .read-name .ensures)
 
 slice-aggregate-is-laid-out-3 : tie.Need-slice-aggregate-is-laid-out-3
 slice-aggregate-is-laid-out-3 c = search needs
@@ -46,10 +46,11 @@ slice-aggregate-is-laid-out-3 c = search needs
 is-laid-out-requires-3 : tie.Need-is-laid-out-requires-3
 is-laid-out-requires-3 c κs = search needs
 
-read-output-requires : tie.Need-read-output-requires
-read-output-requires c κs =
-    let at1 = c .before .before .before .before .before .before in
-    laid-out-count 2 (79 ∷ []) (splitAt 9 (at1 .before .before .before .before .args .line .now)) (sym (c .before .is-laid-out3 .ensures) ∙ c .if3 .taken)
+read-gate-requires : tie.Need-read-gate-requires
+read-gate-requires c κs =
+    let at2 = c .before .before .before in
+    let at1 = at2 .before .before .before in
+    laid-out-count 4 (71 ∷ []) (splitAt 9 (at1 .before .before .before .before .args .line .now)) (sym (c .before .is-laid-out3 .ensures) ∙ c .if3 .taken)
 
 returns-3 : tie.Need-returns-3
 unfolding recordOf fieldsRecord
@@ -58,14 +59,39 @@ returns-3 c =
     let at2 = at3 .before .before .before in
     let at1 = at2 .before .before .before in
     rw (sym (at1 .before .is-laid-out .ensures) ∙ at1 .if1 .left, sym (at2 .before .is-laid-out2 .ensures) ∙ at2 .if2 .left, sym (at3 .before .is-laid-out3 .ensures) ∙ at3 .if3 .taken)
-    (c .read-output .ensures)
+    (c .read-gate .ensures)
+
+slice-aggregate-is-laid-out-4 : tie.Need-slice-aggregate-is-laid-out-4
+slice-aggregate-is-laid-out-4 c = search needs
+
+is-laid-out-requires-4 : tie.Need-is-laid-out-requires-4
+is-laid-out-requires-4 c κs = search needs
+
+read-output-requires : tie.Need-read-output-requires
+read-output-requires c κs =
+    let at3 = c .before .before .before in
+    let at2 = at3 .before .before .before in
+    let at1 = at2 .before .before .before in
+    laid-out-count 2 (79 ∷ []) (splitAt 9 (at1 .before .before .before .before .args .line .now)) (sym (c .before .is-laid-out4 .ensures) ∙ c .if4 .taken)
 
 returns-4 : tie.Need-returns-4
 unfolding recordOf fieldsRecord
 returns-4 c =
-    let at2 = c .before .before .before in
+    let at4 = c .before in
+    let at3 = at4 .before .before .before in
+    let at2 = at3 .before .before .before in
     let at1 = at2 .before .before .before in
-    rw (sym (at1 .before .is-laid-out .ensures) ∙ at1 .if1 .left, sym (at2 .before .is-laid-out2 .ensures) ∙ at2 .if2 .left, sym (c .before .is-laid-out3 .ensures) ∙ c .if3 .left) refl
+    rw (sym (at1 .before .is-laid-out .ensures) ∙ at1 .if1 .left, sym (at2 .before .is-laid-out2 .ensures) ∙ at2 .if2 .left)
+    (rw (sym (at3 .before .is-laid-out3 .ensures) ∙ at3 .if3 .left, sym (at4 .before .is-laid-out4 .ensures) ∙ at4 .if4 .taken) (c .read-output .ensures))
+
+returns-5 : tie.Need-returns-5
+unfolding recordOf fieldsRecord
+returns-5 c =
+    let at3 = c .before .before .before in
+    let at2 = at3 .before .before .before in
+    let at1 = at2 .before .before .before in
+    rw (sym (at1 .before .is-laid-out .ensures) ∙ at1 .if1 .left, sym (at2 .before .is-laid-out2 .ensures) ∙ at2 .if2 .left)
+    (rw (sym (at3 .before .is-laid-out3 .ensures) ∙ at3 .if3 .left, sym (c .before .is-laid-out4 .ensures) ∙ c .if4 .left) refl)
 
 pub read-record-spec : {M : Type 1} → statement M
 read-record-spec =
@@ -77,10 +103,14 @@ read-record-spec =
     returns
     slice-aggregate-is-laid-out-2
     is-laid-out-requires-2
-    read-gate-requires
+    read-name-requires
     returns-2
     slice-aggregate-is-laid-out-3
     is-laid-out-requires-3
-    read-output-requires
+    read-gate-requires
     returns-3
-    returns-4)
+    slice-aggregate-is-laid-out-4
+    is-laid-out-requires-4
+    read-output-requires
+    returns-4
+    returns-5)
