@@ -1,8 +1,7 @@
 // Loading: two drawing files into one table.
 use load_decision::Decision;
-ghost use Rattle.load_model.specs.Load.{answerOf, loadResult, tableAfter};
+ghost use Rattle.load_model.specs.Load.{answerOf, loadResult, tableLoaded};
 ghost use Rattle.load_model.specs.Lent.{Kept, roomIn, working};
-ghost use Rattle.netlist_model.specs.Check.{readNetlist};
 ghost use mathlib.Core.Path.{_≡_};
 pub use load_model::Loaded;
 pub use load_model::MAX_TABLE;
@@ -21,7 +20,7 @@ pub fn load(
     outputs: &mut [u32],
 ) -> Loaded
     ensures result { λ r. ⌜ answerOf r ≡ loadResult (now (left .entry)) (now (right .entry)) (roomIn (table .entry) (pairs .entry) (look .entry) (literals .entry) (outputs .entry)) ⌝ }
-    ensures table { λ r. ⌜ now (table .exit) ≡ tableAfter (answerOf r) (readNetlist (now (left .entry))) (readNetlist (now (right .entry))) (now (table .entry)) ⌝ }
+    ensures table { λ r. ⌜ now (table .exit) ≡ tableLoaded (answerOf r) (now (left .entry)) (now (right .entry)) (now (table .entry)) ⌝ }
     ensures kept { λ r. ⌜ Kept (answerOf r) (working (pairs .entry) (look .entry) (literals .entry) (outputs .entry)) (working (pairs .exit) (look .exit) (literals .exit) (outputs .exit)) ⌝ }
 {
     let decision = load_decision::decide(
@@ -47,7 +46,8 @@ pub fn load(
                 literals,
                 outputs,
             );
-            Loaded::Accepted(tally)
+            let edition = one.edition;
+            Loaded::Accepted { edition, tally }
         }
     }
 }

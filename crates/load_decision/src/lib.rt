@@ -1,9 +1,10 @@
 // Whether two files are loaded: every refusal, decided over the files and the lengths of the lent slices.
 use netlist::Checked;
+use netlist::Role;
 use netlist::Summary;
 use netlist::check;
 ghost use Rattle.load_model.specs.Load.{shortSlice?};
-ghost use Rattle.load_decision.specs.code.Decision.{decision, pairDecision, readDecision};
+ghost use Rattle.load_decision.specs.code.Decision.{Checks, checkedFile, decision, pairDecision, secondDecision};
 ghost use Rattle.load_model.specs.Lent.{roomOf};
 ghost use mathlib.Core.Path.{_≡_};
 
@@ -30,15 +31,12 @@ pub fn decide(
     if netlist::MAX_BYTES < right.len() {
         return refused(1, 2, 0);
     }
-    decide_read(
-        check::check_file(left),
-        check::check_file(right),
-        table,
-        pairs,
-        look,
-        literals,
-        outputs,
-    )
+    match check::check_file(left, Role::First) {
+        Checked::Refused { number, line } => refused(number, 1, line),
+        Checked::Accepted(one) => {
+            decide_second(left, right, one, table, pairs, look, literals, outputs)
+        }
+    }
 }
 
 fn refused(number: u32, file: u32, line: u32) -> Decision
@@ -47,46 +45,62 @@ fn refused(number: u32, file: u32, line: u32) -> Decision
     Decision::Refused { number, file, line }
 }
 
-// By what the checks of the two files say.
-fn decide_read(
-    left: Checked,
-    right: Checked,
+// By what the check of the second file says, the first being accepted: a pair is of one edition.
+fn decide_second(
+    left: &[u8],
+    right: &[u8],
+    one: Summary,
     table: usize,
     pairs: usize,
     look: usize,
     literals: usize,
     outputs: usize,
 ) -> Decision
-    ensures { λ r. ⌜ r ≡ readDecision left right (roomOf table pairs look literals outputs) ⌝ }
+    requires { ⌜ checkedFile Role.First (now left) ≡ Checked.Accepted one ⌝ }
+    ensures { λ r. ⌜ r ≡ secondDecision (now (left .entry)) (now (right .entry)) one (checkedFile (Role.Second (one .edition)) (now (right .entry))) (roomOf table pairs look literals outputs) ⌝ }
 {
-    match left {
-        Checked::Refused { number, line } => refused(number, 1, line),
-        Checked::Accepted(one) => match right {
-            Checked::Refused { number, line } => refused(number, 2, line),
-            Checked::Accepted(two) => decide_pair(one, two, table, pairs, look, literals, outputs),
-        },
+    match check::check_file(right, Role::Second(one.edition)) {
+        Checked::Refused { number, line } => refused(number, 2, line),
+        Checked::Accepted(two) => decide_pair(
+            left,
+            right,
+            one,
+            two,
+            table,
+            pairs,
+            look,
+            literals,
+            outputs,
+        ),
     }
 }
 
-// By the counts of two accepted files and the lengths of the lent slices.
+// By the counts and the names of two accepted files and the lengths of the lent slices.
 fn decide_pair(
-    left: Summary,
-    right: Summary,
+    left: &[u8],
+    right: &[u8],
+    one: Summary,
+    two: Summary,
     table: usize,
     pairs: usize,
     look: usize,
     literals: usize,
     outputs: usize,
 ) -> Decision
-    ensures { λ r. ⌜ r ≡ pairDecision left right (roomOf table pairs look literals outputs) ⌝ }
+    requires { ⌜ Checks (now left) (now right) one two ⌝ }
+    ensures { λ r. ⌜ r ≡ pairDecision (now (left .entry)) (now (right .entry)) one two (roomOf table pairs look literals outputs) ⌝ }
 {
-    if left.inputs != right.inputs {
+    if one.inputs != two.inputs {
         return refused(7, 2, 1);
     }
-    if left.outputs != right.outputs {
+    if one.outputs != two.outputs {
         return refused(7, 2, 1);
     }
-    if (table::MAX_ANDS as usize) < left.ands as usize + right.ands as usize {
+    let lacked = netlist_names::first_lacked(left, right, two.names);
+    if lacked < two.names {
+        return refused(19, 2, 2 + lacked);
+    }
+    if (table::MAX_ANDS as usize) < one.ands as usize + two.ands as usize {
         return refused(8, 0, 0);
     }
     if table < load_model::MAX_TABLE {
@@ -95,7 +109,7 @@ fn decide_pair(
     if is_short(pairs, look, literals, outputs) {
         return refused(14, 0, 0);
     }
-    Decision::Go(left, right)
+    Decision::Go(one, two)
 }
 
 // Whether a working slice is too short.

@@ -1,7 +1,7 @@
 -- One file loaded: its gates and then its outputs, as the file holds them.
 use Prim.Native.Nat.{_*_, _+_, _<_, _≤_, ℕ}
-use Rattle.load_model.proofs.PairMeaningLaws.{literals-length}
-use Rattle.load_model.specs.Build.{Build, Traced, askGates, buildFile, literalFor, literalsFrom}
+use Rattle.load_model.specs.Build.{Build, Traced, askGates, literalFor}
+use Rattle.load_model.specs.code.Paired.{buildFrom}
 use Rattle.load_file.proofs.Passing.{literal-front}
 use Rattle.load_file.specs.code.File.{GatesAhead, GatesPassed, OutputsAhead}
 use Rattle.netlist_model.proofs.ReadLaws.{gates-in, outputs-in}
@@ -12,9 +12,7 @@ use Rattle.netlist_model.specs.Netlist.{AllBelow, Netlist, bodyRecords}
 use Rattle.netlist_model.specs.Records.{fileRecords}
 use Rattle.netlist_model.specs.declared.Summary.{Summary}
 use Rattle.table.specs.Limits.{maxAnds, maxInputs, maxOutputs}
-use Rattle.text.specs.Decimal.{written}
-use lib.ListN.{drop, length, take}
-use lib.Seq.{take-at}
+use lib.ListN.{drop, take}
 use mathlib.Core.List.{List, [], _∷_, map}
 use mathlib.Core.Path.{_∙_, _≡_, ap, ap₂, refl, sym}
 use native.Mathlib.Omega.{arith}
@@ -27,11 +25,6 @@ below-more {m = m} h (netlist.AllBelow.next {r = r} l b) = let k : r < m = omega
 map-front : (literals : List ℕ) (n : ℕ) {rs : List ℕ} → AllBelow (2 * n) rs → map (literalFor literals) rs ≡ map (literalFor (take n literals)) rs
 map-front literals n netlist.AllBelow.none = refl
 map-front literals n (netlist.AllBelow.next {r = r} l b) = ap₂ _∷_ (sym (literal-front literals n r l)) (map-front literals n b)
-
--- The literals of the first vertices, written, are those of a file before its gates.
-first-literals : (literals : List ℕ) (n : ℕ) → take n (written literals 0 (literalsFrom 0 n)) ≡ literalsFrom 0 n
-unfolding written
-first-literals literals n = take-at (literalsFrom 0 n) (drop (0 + length (literalsFrom 0 n)) literals) n (literals-length 0 n)
 
 module _ {file : List ℕ} {s : Summary} {d : Netlist} (h : HoldsNetlist file s d) where
   -- The counts of a file and their limits.
@@ -87,21 +80,19 @@ module _ {file : List ℕ} {s : Summary} {d : Netlist} (h : HoldsNetlist file s 
   -- The graph after the file, and the literals for its references.
   module _
       (literals later : List ℕ) {b c : Build} {at : ℕ}
-      (p : GatesPassed file (s .start) (record { literals = take (1 + s .inputs) (written literals 0 (literalsFrom 0 (1 + s .inputs))); build = b })
+      (p : GatesPassed file (s .start) (record { literals = literals; build = b })
       (record { literals = take (1 + s .inputs + s .gates) later; build = c }) at) where
     traced :
         _≡_ {A = Traced} (record { literals = take (1 + s .inputs + s .gates) later; build = c })
-        (askGates (record { literals = literalsFrom 0 (1 + d .inputs); build = b }) (d .gates))
-    traced =
-        let i : s .inputs ≡ d .inputs = ap (λ (x : Summary). x .inputs) (h .counts) in
-        rw (← i) (rw (first-literals literals (1 + s .inputs), gates-are) at (p .asked))
+        (askGates (record { literals = literals; build = b }) (d .gates))
+    traced = rw gates-are at (p .asked)
 
-    pub file-built : c ≡ buildFile b d .build
-    unfolding buildFile
+    pub file-built : c ≡ buildFrom literals b d .build
+    unfolding buildFrom
     file-built = ap (λ (t : Traced). t .build) traced
 
-    pub file-outputs : map (literalFor later) (outputsIn (fileRecords (drop at file))) ≡ buildFile b d .outputs
-    unfolding buildFile
+    pub file-outputs : map (literalFor later) (outputsIn (fileRecords (drop at file))) ≡ buildFrom literals b d .outputs
+    unfolding buildFrom
     file-outputs =
         rw (references-are p)
         (map-front later (1 + s .inputs + s .gates) outputs-below ∙ ap (λ (t : Traced). map (literalFor (t .literals)) (d .outputs)) traced)

@@ -1,3 +1,2 @@
 pub mod FileLoading
-pub mod FirstLiterals
 pub mod Passing

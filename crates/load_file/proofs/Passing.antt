@@ -7,7 +7,7 @@ use Rattle.load_graph.proofs.Asking.{gate-asked}
 use Rattle.load_graph.specs.code.Slices.{tracedOf}
 use Rattle.load_graph.specs.declared.Counts.{Counts}
 use Rattle.load_file.specs.code.File.{GateLine, GatesAhead, GatesPassed, OutputLine, OutputsAhead}
-use Rattle.netlist_model.proofs.LineLaws.{Line, line-ahead}
+use Rattle.netlist_model.proofs.LineLaws.{RecordAt, record-ahead}
 use Rattle.netlist_model.proofs.ReadLaws.{gates-in, outputs-in}
 use Rattle.netlist_model.specs.Check.{andsOf, gatesIn, outputsIn}
 use Rattle.netlist_model.specs.Meaning.{andCount}
@@ -33,9 +33,9 @@ use native.Mathlib.Omega.{arith}
 pub literal-front : (literals : List ℕ) (n r : ℕ) → r < 2 * n → literalFor (take n literals) r ≡ literalFor literals r
 literal-front literals n r h = rw (getD-take n literals (vertexOf r) 0 (omega arith)) refl
 
--- A kind of record is none of three others.
-pub none-of : {kind a b c : ℕ} → (kind ≡ a) ⊎ ((kind ≡ b) ⊎ (kind ≡ c)) → (kind ≡ a → ⊥) → (kind ≡ b → ⊥) → (kind ≡ c → ⊥) → ⊥
-none-of k f g h = ⊎-elim f (λ l. ⊎-elim g h l) k
+-- A kind of record is none of four others.
+pub none-of : {kind a b c d : ℕ} → (kind ≡ a) ⊎ ((kind ≡ b) ⊎ ((kind ≡ c) ⊎ (kind ≡ d))) → (kind ≡ a → ⊥) → (kind ≡ b → ⊥) → (kind ≡ c → ⊥) → (kind ≡ d → ⊥) → ⊥
+none-of k f g h i = ⊎-elim f (λ l. ⊎-elim g (λ m. ⊎-elim h i m) l) k
 
 -- What the gate of a line keeps.
 pub record Due (v asked : ℕ) (op : Operation) (p q : ℕ) : Type 0 where
@@ -93,7 +93,7 @@ module _ (file : List ℕ) (all : List netlist.Gate) (os : List ℕ) (end : ℕ)
   record NextGate (at v : ℕ) (t : Traced) : Type 0 where
     gate : netlist.Gate
     others : List netlist.Gate
-    line : Line file at (gateRecord gate) (map gateRecord others ++ map Output os)
+    line : RecordAt file at (gateRecord gate) (map gateRecord others ++ map Output os)
     counted : v + 1 + length others ≡ end
     ahead : askGates t (gate ∷ others) ≡ askGates before all
     first-below : gate .p < 2 * v
@@ -151,7 +151,7 @@ module _ {file : List ℕ} {all : List netlist.Gate} {os : List ℕ} {end : ℕ}
             record {
               gate = g;
               others = gs;
-              line = line-ahead file at r (gate-formed g);
+              line = record-ahead file at r (gate-formed g);
               counted = omega arith;
               ahead = h;
               first-below = hp;
@@ -220,7 +220,7 @@ module _ (file : List ℕ) (n : ℕ) (f : ℕ → ℕ) (old : List ℕ) (from : 
   record NextOutput (at k : ℕ) (list : List ℕ) : Type 0 where
     reference : ℕ
     others : List ℕ
-    line : Line file at (Output reference) (map Output others)
+    line : RecordAt file at (Output reference) (map Output others)
     counted : k + 1 + length others ≡ end
     bound : reference < 2 * n
     below : AllBelow (2 * n) others
@@ -272,7 +272,7 @@ module _ {file : List ℕ} {n : ℕ} {f : ℕ → ℕ} {old : List ℕ} {from : 
             record {
               reference = x;
               others = rs;
-              line = line-ahead file at r (output-formed x);
+              line = record-ahead file at r (output-formed x);
               counted = omega arith;
               bound = l;
               below = b;

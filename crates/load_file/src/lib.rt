@@ -1,22 +1,23 @@
 // One file into the graph: its gates asked for, its outputs as literals of the graph.
 use aig::literal::Literal;
 use load_graph::Counts;
-use netlist::Summary;
 use netlist_model::Record;
+use netlist_model::Summary;
 use netlist_records::lines;
 ghost use Prim.Native.Nat.{_*_, _+_, _<_, _≤_};
 ghost use Rattle.aig.specs.Literal.{lit, vertexOf};
-ghost use Rattle.load_model.specs.Build.{askGates, buildFile, literalFor, literalsFrom};
+ghost use Rattle.load_model.specs.Build.{askGates, literalFor};
 ghost use Rattle.load_model.specs.Load.{maxVertices};
 ghost use Rattle.load_graph.specs.code.Slices.{Graph, buildOf};
-ghost use Rattle.load_file.specs.code.File.{GateLine, GatesAhead, GatesPassed, OutputLine, OutputsAhead, lineGates, netlistOf, trace};
-ghost use Rattle.netlist_model.specs.code.Accepted.{HoldsNetlist};
+ghost use Rattle.load_model.specs.code.Paired.{buildFrom};
+ghost use Rattle.load_file.specs.code.File.{GateLine, GatesAhead, GatesPassed, OutputLine, OutputsAhead, lineGates, trace};
+ghost use Rattle.netlist_model.specs.code.Accepted.{HoldsNetlist, netlistOf};
 ghost use Rattle.netlist_model.specs.Check.{outputsIn};
 ghost use Rattle.netlist_model.specs.Records.{fileRecords, recordOf};
-ghost use Rattle.table.specs.Limits.{maxAnds, maxInputs, maxOutputs};
+ghost use Rattle.table.specs.Limits.{maxAnds, maxOutputs};
 ghost use Rattle.text.specs.Decimal.{written};
 ghost use Rattle.text.specs.Split.{upTo};
-ghost use lib.ListN.{drop, length};
+ghost use lib.ListN.{drop, length, take};
 ghost use mathlib.Core.List.{[], _∷_, map};
 ghost use mathlib.Core.Path.{_≡_};
 
@@ -26,7 +27,7 @@ pub struct Passed {
     pub counts: Counts,
 }
 
-// Loads a file into the graph and writes its output literals from a place of `outputs` on.
+// Loads a file into the graph, the literals of its first vertices being there, and writes its output literals from a place of `outputs` on.
 pub fn load_file(
     file: &[u8],
     summary: Summary,
@@ -40,12 +41,11 @@ pub fn load_file(
     requires file { ⌜ HoldsNetlist (now file) summary (netlistOf (now file) summary) ⌝ }
     requires graph { ⌜ Graph (now pairs) (now look) counts ⌝ }
     requires room { ⌜ (counts .asked + summary .ands ≤ maxAnds) × (2 * maxVertices ≤ length (now literals)) × (from + maxOutputs ≤ length (now outputs)) ⌝ }
-    ensures result { λ r. ⌜ buildOf (now (pairs .exit)) r ≡ buildFile (buildOf (now (pairs .entry)) counts) (netlistOf (now (file .entry)) summary) .build ⌝ }
-    ensures outputs { λ _. ⌜ now (outputs .exit) ≡ written (now (outputs .entry)) from (buildFile (buildOf (now (pairs .entry)) counts) (netlistOf (now (file .entry)) summary) .outputs) ⌝ }
+    ensures result { λ r. ⌜ buildOf (now (pairs .exit)) r ≡ buildFrom (take (1 + summary .inputs) (now (literals .entry))) (buildOf (now (pairs .entry)) counts) (netlistOf (now (file .entry)) summary) .build ⌝ }
+    ensures outputs { λ _. ⌜ now (outputs .exit) ≡ written (now (outputs .entry)) from (buildFrom (take (1 + summary .inputs) (now (literals .entry))) (buildOf (now (pairs .entry)) counts) (netlistOf (now (file .entry)) summary) .outputs) ⌝ }
     ensures graph { λ r. ⌜ Graph (now (pairs .exit)) (now (look .exit)) r ⌝ }
 {
     let first = 1 + summary.inputs;
-    write_first_literals(literals, first);
     let passed = ask_gates(
         file,
         summary.start,
@@ -116,18 +116,6 @@ fn write_outputs(
         outputs[k] = output_literal(file, at, literals).0;
         at = lines::line_end(file, at);
         k += 1;
-    }
-}
-
-// The literals of the first vertices.
-fn write_first_literals(literals: &mut [u32], count: u32)
-    requires { ⌜ (count ≤ 1 + maxInputs) × (count ≤ length (now literals)) ⌝ }
-    ensures { λ _. ⌜ now (literals .exit) ≡ written (now (literals .entry)) 0 (literalsFrom 0 count) ⌝ }
-{
-    let mut v: u32 = 0;
-    while v < count {
-        literals[v as usize] = 2 * v;
-        v += 1;
     }
 }
 

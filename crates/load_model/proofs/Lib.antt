@@ -9,6 +9,7 @@ pub mod MeaningLaws
 pub mod OrderLaws
 pub mod PairLaws
 pub mod PairMeaningLaws
+pub mod PairedLaws
 pub mod RowLaws
 pub mod TableLaws
 pub mod ValueLaws

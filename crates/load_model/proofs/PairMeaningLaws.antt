@@ -21,7 +21,7 @@ unfolding literalsFrom
 literals-length v zero = refl
 literals-length v (suc n) = ap suc (literals-length (suc v) n)
 
-first-literal : (v n i : ℕ) → i < n → getD (literalsFrom v n) i 0 ≡ 2 * (v + i)
+pub first-literal : (v n i : ℕ) → i < n → getD (literalsFrom v n) i 0 ≡ 2 * (v + i)
 unfolding literalsFrom
 first-literal v zero i h = absurd (omega arith)
 first-literal v (suc n) zero h = omega arith

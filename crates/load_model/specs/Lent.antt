@@ -28,5 +28,5 @@ working pairs look literals outputs = record { pairs = now pairs; look = now loo
 
 -- "refusals leaving all of them unchanged, and free are only the working slices" (RULES 8.3, 12.5)
 abbrev pub Kept : Answer → Working → Working → Type 0
-Kept (accepted t) before after = Unit
+Kept (accepted x t) before after = Unit
 Kept (refused k f n) before after = after ≡ before

@@ -7,7 +7,10 @@ use Rattle.load_model.specs.declared.Tally.{Tally}
 use Rattle.netlist_model.specs.code.Accepted.{countsIn}
 use Rattle.netlist_model.specs.Check.{Counts, Read, read, readNetlist, unread}
 use Rattle.netlist_model.specs.Limits.{maxBytes}
+use Rattle.netlist_model.specs.Names.{firstLacked}
 use Rattle.netlist_model.specs.Netlist.{Netlist}
+use Rattle.netlist_model.specs.Pairing.{paired}
+use Rattle.netlist_model.specs.declared.Role.the-variants.{First, Second}
 use Rattle.table.specs.Limits.{maxAnds, maxInputs, maxOutputs}
 use Rattle.table.specs.Refusals.{Test, firstRefusal}
 use Rattle.table.specs.Table.{Graph, graphOf}
@@ -32,14 +35,15 @@ maxVertices = 1 + maxInputs + maxAnds
 abbrev pub maxTable : ℕ
 maxTable = 3 + 2 * maxAnds + 2 * maxOutputs
 
--- An answer: how the ANDs that were asked for ended, or the number, the file and the line of a refusal. (RULES 3.8, 8.1)
+-- An answer: the edition of the pair and how the ANDs that were asked for ended, or the number, the file and the line of a
+-- refusal. (RULES 3.8, 8.1)
 pub data Answer : Type 0 where
-  accepted : Tally → Answer
+  accepted : ℕ → Tally → Answer
   refused : ℕ → ℕ → ℕ → Answer
 
 -- The rules' number and values for each case of the result. (RULES 8.1)
 abbrev pub answerOf : Loaded → Answer
-answerOf (Accepted t) = accepted t
+answerOf (Accepted e t) = accepted e t
 answerOf (Refused k f n) = refused k f n
 
 -- "1. The file is longer than 65,536 bytes.", for both files; `refuse` is given the number, the file and the line.
@@ -58,10 +62,12 @@ unfoldable pub shortSlice? : LoadRoom → Bool
 shortSlice? r =
     ltb (r .pairs) (2 * maxVertices) || ltb (r .look) (2 * maxVertices) || ltb (r .literals) (2 * maxVertices) || ltb (r .outputs) (2 * maxVertices)
 
--- "then 7, 8, 9, 14": "8. The ANDs exceed 6,144. 9. The table is shorter than 12,419 words.", by the counts of both files.
-abbrev pub pairTests : {A : Type 0} → (ℕ → ℕ → ℕ → A) → Counts → Counts → LoadRoom → List (Test A)
-pairTests refuse c d room =
+-- "then 7, 8, 9, 14", 19 "after 7": "19 a name that the first file lacks, at its line in the second file", whose first name is in line 2; "8. The
+-- ANDs exceed 6,144. 9. The table is shorter than 12,419 words.". By the counts of both files and the place of the first name lacked. (RULES 9.1)
+abbrev pub pairTests : {A : Type 0} → (ℕ → ℕ → ℕ → A) → Counts → Counts → ℕ → LoadRoom → List (Test A)
+pairTests refuse c d lacked room =
     record { answer = refuse 7 2 1; applies = countsDiffer? c d }
+    ∷ record { answer = refuse 19 2 (2 + lacked); applies = ltb lacked (d .names) }
     ∷ record { answer = refuse 8 0 0; applies = ltb maxAnds (c .ands + d .ands) }
     ∷ record { answer = refuse 9 0 0; applies = ltb (room .table) maxTable }
     ∷ record { answer = refuse 14 0 0; applies = shortSlice? room }
@@ -73,15 +79,27 @@ tallyOf d e =
     let b = buildPair d e .build in
     record { asked = b .asked; folded = b .folded; found = b .found; made = b .count - (1 + d .inputs) }
 
--- "then 2 to 6 line by line, first file first" (RULES 9.1)
+-- "then 2 to 6 line by line, first file first": the first file.
+abbrev pub readFirst : List ℕ → Read
+readFirst left = readNetlist First left
+
+-- The second file, by the edition of the first: "a pair must be of one edition". (RULES 1.11)
+unfoldable pub readSecond : Read → List ℕ → Read
+readSecond (read d) right = readNetlist (Second (d .edition)) right
+readSecond (unread k n) right = unread k n
+
+-- What both come to. (RULES 9.1)
 unfoldable pub readResult : LoadRoom → Read → Read → Answer
 readResult room (unread k n) e = refused k 1 n
 readResult room (read d) (unread k n) = refused k 2 n
-readResult room (read d) (read e) = firstRefusal (accepted (tallyOf d e)) (pairTests refused (countsIn d) (countsIn e) room)
+readResult room (read d) (read e) =
+    firstRefusal (accepted (d .edition) (tallyOf d (paired d e)))
+    (pairTests refused (countsIn d) (countsIn e) (firstLacked (d .names) (e .names)) room)
 
 -- "Load tests 1 for both files, then 2 to 6 line by line, first file first, then 7, 8, 9, 14, and names file and line" (RULES 8.1, 9.1)
 unfoldable pub loadResult : List ℕ → List ℕ → LoadRoom → Answer
-loadResult left right room = firstRefusal (readResult room (readNetlist left) (readNetlist right)) (lengthTests refused left right)
+loadResult left right room =
+    firstRefusal (readResult room (readFirst left) (readSecond (readFirst left) right)) (lengthTests refused left right)
 
 -- "The lent table of 32-bit words then holds: inputs; made; outputs; two words a made vertex; the first file's output references; the
 -- second file's." (RULES 4.1)
@@ -97,9 +115,13 @@ tableOf d e old = let ws = tableWords (d .inputs) (buildPair d e) in ws ++ drop 
 abbrev pub loadedGraph : Netlist → Netlist → List ℕ → Graph
 loadedGraph d e old = graphOf (tableOf d e old)
 
--- The table after a load: unchanged after a refusal. (RULES 8.3)
+-- The table after a load, the second file's inputs being in the first one's order: unchanged after a refusal. (RULES 1.11, 8.3)
 unfoldable pub tableAfter : Answer → Read → Read → List ℕ → List ℕ
-tableAfter (accepted t) (read d) (read e) old = tableOf d e old
-tableAfter (accepted t) (read d) (unread k n) old = old
-tableAfter (accepted t) (unread k n) e old = old
+tableAfter (accepted x t) (read d) (read e) old = tableOf d (paired d e) old
+tableAfter (accepted x t) (read d) (unread k n) old = old
+tableAfter (accepted x t) (unread k n) e old = old
 tableAfter (refused k f n) d e old = old
+
+-- The same, by the files.
+abbrev pub tableLoaded : Answer → List ℕ → List ℕ → List ℕ → List ℕ
+tableLoaded answer left right old = tableAfter answer (readFirst left) (readSecond (readFirst left) right) old

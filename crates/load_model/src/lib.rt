@@ -20,6 +20,6 @@ pub struct Tally {
 }
 
 pub enum Loaded {
-    Accepted(Tally),
+    Accepted { edition: u32, tally: Tally },
     Refused { number: u32, file: u32, line: u32 },
 }

@@ -3,12 +3,12 @@ mod layout;
 
 use load_graph::Counts;
 use load_model::Tally;
-use netlist::Summary;
+use netlist_model::Summary;
 ghost use Prim.Native.Nat.{_≤_};
 ghost use Rattle.load_model.specs.Load.{maxTable, tableOf, tallyOf};
 ghost use Rattle.load_graph.specs.code.Slices.{buildOf};
-ghost use Rattle.load_file.specs.code.File.{netlistOf};
-ghost use Rattle.load_pair.specs.code.Pair.{Agreed, Enough, outputsOver, pairOf};
+ghost use Rattle.load_pair.specs.code.Pair.{Agreed, Enough, outputsOver, pairOf, secondOf};
+ghost use Rattle.netlist_model.specs.code.Accepted.{netlistOf};
 ghost use lib.ListN.{length};
 ghost use mathlib.Core.Path.{_≡_};
 
@@ -27,8 +27,8 @@ pub fn load_pair(
     requires files { ⌜ Agreed (now left) (now right) one two ⌝ }
     requires room { ⌜ Enough (length (now pairs)) (length (now look)) (length (now literals)) (length (now outputs)) ⌝ }
     requires table { ⌜ maxTable ≤ length (now table) ⌝ }
-    ensures result { λ r. ⌜ r ≡ tallyOf (netlistOf (now (left .entry)) one) (netlistOf (now (right .entry)) two) ⌝ }
-    ensures table { λ _. ⌜ now (table .exit) ≡ tableOf (netlistOf (now (left .entry)) one) (netlistOf (now (right .entry)) two) (now (table .entry)) ⌝ }
+    ensures result { λ r. ⌜ r ≡ tallyOf (netlistOf (now (left .entry)) one) (secondOf (now (left .entry)) (now (right .entry)) one two) ⌝ }
+    ensures table { λ _. ⌜ now (table .exit) ≡ tableOf (netlistOf (now (left .entry)) one) (secondOf (now (left .entry)) (now (right .entry)) one two) (now (table .entry)) ⌝ }
 {
     let first = 1 + one.inputs;
     let counts = build_pair(left, right, one, two, pairs, look, literals, outputs);
@@ -49,7 +49,7 @@ pub fn load_pair(
     }
 }
 
-// The graph of both files, the first loaded whole, then the second, and the literals of their outputs.
+// The graph of both files, the first loaded whole, then the second with its inputs in the first one's order, and the literals of their outputs.
 fn build_pair(
     left: &[u8],
     right: &[u8],
@@ -66,7 +66,9 @@ fn build_pair(
     ensures outputs { λ _. ⌜ now (outputs .exit) ≡ outputsOver (now (outputs .entry)) (pairOf (now (left .entry)) (now (right .entry)) one two) ⌝ }
 {
     let counts = load_graph::start(pairs, look, one.inputs);
+    load_inputs::write_by_place(literals, 1 + one.inputs);
     let counts = load_file::load_file(left, one, pairs, look, literals, outputs, 0, counts);
+    load_inputs::write_second(left, right, literals, two.edition, two.inputs, two.names);
     load_file::load_file(
         right,
         two,

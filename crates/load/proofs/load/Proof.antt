@@ -43,7 +43,7 @@ same-length-5 c = search needs
 returns-2 : tie.Need-returns-2
 returns-2 c =
     let g = goes-on _ _ _ (c .before .before .before .before .before .before .before .before .before .before .before .before .before .before .before .before .before .before .before .decide .ensures) (c .before .before .before .before .before .before .before .before .before .before .before .before .before .before .before .before .before .decision2 .given .1) in
-    (ap accepted (c .before .before .before .before .before .before .before .before .before .before .load-pair .ensures .0) ∙ sym (g .result), (c .before .before .before .before .before .before .before .before .before .before .load-pair .ensures .1 ∙ sym (goes-table _ _ _ g _ _), tt))
+    (ap (accepted (c .before .before .before .before .before .before .before .before .before .before .before .before .before .before .before .before .before .decision2 .given .0 .0 .edition)) (c .before .before .before .before .before .before .before .before .before .before .load-pair .ensures .0) ∙ sym (g .result), (c .before .before .before .before .before .before .before .before .before .before .load-pair .ensures .1 ∙ sym (goes-table _ _ _ g _ _ _), tt))
 
 pub load-spec : {M : Type 1} → statement M
 load-spec =

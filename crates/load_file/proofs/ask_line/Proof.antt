@@ -1,18 +1,11 @@
 -- The line's gate is asked for and its literal stored; no loop.
 -- The line is a gate's, whose references are to vertices below it.
 use Rattle.load_file.proofs.Passing.{gate-due, gate-stored, none-of}
-use Rattle.load_file.proofs.Passing.{gate-due, gate-stored}
 use Rattle.load_file.proofs.ask_line.Statement.{statement}
 use Rattle.load_file.proofs.ask_line.Tie as tie
 use borrow.Author.Needs.{needs}
 use mathlib.Core.Path.{_∙_, sym}
 use native.Mathlib.Omega.{arith}
-
--- The line's gate is asked for and its literal stored; no loop.
--- The line is a gate's, whose references are to vertices below it.
-
--- The line's gate is asked for and its literal stored; no loop.
--- The line is a gate's, whose references are to vertices below it.
 
 read-line-requires : tie.Need-read-line-requires
 read-line-requires c κs = search needs
@@ -21,7 +14,7 @@ enum-known-found : tie.Need-enum-known-found
 enum-known-found c = search needs
 
 returns : tie.Need-returns
-returns c = absurd (none-of (rw (c .before .read-line .ensures ∙ c .before .before .before .before .before .before .pre .0 .this) at (c .match .keys2)) (λ h. omega arith) (λ h. omega arith) (λ h. omega arith))
+returns c = absurd (none-of (rw (c .before .read-line .ensures ∙ c .before .before .before .before .before .before .pre .0 .this) at (c .match .keys2)) (λ h. omega arith) (λ h. omega arith) (λ h. omega arith) (λ h. omega arith))
 
 literal-for-requires : tie.Need-literal-for-requires
 literal-for-requires c κs = omega (arith, gate-due (c .before .before .before .before .before .before .before .before .before .pre .0) (sym (c .before .before .before .before .read-line .ensures) ∙ c .before .before .found .given .1) .first-below, c .before .before .before .before .before .before .before .before .before .pre .1 .1)

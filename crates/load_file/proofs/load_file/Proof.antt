@@ -1,4 +1,4 @@
--- The first vertices, the gates and the outputs of the file, one after the other; no loop.
+-- The gates and the outputs of the file, one after the other; no loop.
 -- What the file holds is ahead of each.
 use Rattle.load_file.proofs.FileLoading.{file-built, file-outputs, gates-few, gates-there, inputs-few, outputs-few, outputs-there}
 use Rattle.load_file.proofs.load_file.Statement.{statement}
@@ -10,9 +10,6 @@ use native.Mathlib.Omega.{arith}
 add-first : tie.Need-add-first
 add-first c = omega (arith, inputs-few (c .before .before .before .before .before .before .pre .0))
 
-write-first-literals-requires : tie.Need-write-first-literals-requires
-write-first-literals-requires c κs = (omega (arith, inputs-few (c .before .before .before .before .before .before .before .pre .0)), omega (arith, inputs-few (c .before .before .before .before .before .before .before .pre .0), c .before .before .before .before .before .before .before .pre .1 .1 .1))
-
 cast-ask-gates : tie.Need-cast-ask-gates
 cast-ask-gates c = search needs
 
@@ -21,17 +18,17 @@ cast-ask-gates-2 c = search needs
 
 ask-gates-requires : tie.Need-ask-gates-requires
 ask-gates-requires c κs =
-    let s = c .before .before .before .before .before .before .before .before .before .before .before .before .before .before in
-    (gates-there (s .pre .0) (s .pre .1 .1 .0), (s .pre .1 .0, omega (arith, inputs-few (s .pre .0), gates-few (s .pre .0), s .pre .1 .1 .1, c .before .before .before .before .before .literals .given)))
+    let s = c .before .before .before .before .before .before .before .before .before .before in
+    (gates-there (s .pre .0) (s .pre .1 .1 .0), (s .pre .1 .0, omega (arith, inputs-few (s .pre .0), gates-few (s .pre .0), s .pre .1 .1 .1)))
 
 cast-write-outputs : tie.Need-cast-write-outputs
 cast-write-outputs c = search needs
 
 write-outputs-requires : tie.Need-write-outputs-requires
 write-outputs-requires c κs =
-    let s = c .before .before .before .before .before .before .before .before .before .before .before .before .before .before .before .before .before .before .before .before .before .before .before .before in (
+    let s = c .before .before .before .before .before .before .before .before .before .before .before .before .before .before .before .before .before .before .before .before in (
       outputs-there (s .pre .0) (c .before .before .before .before .before .before .before .before .before .ask-gates .ensures .0)
-          (omega (arith, inputs-few (s .pre .0), gates-few (s .pre .0), s .pre .1 .1 .1, c .before .before .before .before .before .before .before .before .before .before .before .before .before .before .before .literals .given, c .before .before .before .before .literals2 .given)),
+          (omega (arith, inputs-few (s .pre .0), gates-few (s .pre .0), s .pre .1 .1 .1, c .before .before .before .before .literals .given)),
       omega (arith, outputs-few (s .pre .0), s .pre .1 .1 .2),
     )
 
@@ -49,18 +46,15 @@ same-length-4 c = search needs
 
 returns : tie.Need-returns
 returns c =
-    let s = c .before .before .before .before .before .before .before .before .before .before .before .before .before .before .before .before .before .before .before .before .before .before .before .before .before .before .before .before in
-    let l = s .args .literals .now in
-    let m = c .before .before .before .before .before .before .before .before .before .before .before .before .before .ask-gates .last .1 .1 .1 .1 .1 .0 in
-    let p = rw (c .before .before .before .before .before .before .before .before .before .before .before .before .before .before .before .before .before .before .before .before .write-first-literals .ensures) at (c .before .before .before .before .before .before .before .before .before .before .before .before .before .ask-gates .ensures .0) in
-    (file-built (s .pre .0) l m p, (c .before .before .before .write-outputs .ensures ∙ rw (file-outputs (s .pre .0) l m p) refl, c .before .before .before .before .before .before .before .before .before .before .before .before .before .ask-gates .ensures .1))
+    let s = c .before .before .before .before .before .before .before .before .before .before .before .before .before .before .before .before .before .before .before .before .before .before .before .before in
+    let asked = c .before .before .before .before .before .before .before .before .before .before .before .before .before .ask-gates .ensures in
+    (file-built (s .pre .0) _ _ (asked .0), (c .before .before .before .write-outputs .ensures ∙ rw (file-outputs (s .pre .0) _ _ (asked .0)) refl, asked .1))
 
 pub load-file-spec : {M : Type 1} → statement M
 load-file-spec =
     tie.close
     (tie.spec
     add-first
-    write-first-literals-requires
     cast-ask-gates
     cast-ask-gates-2
     ask-gates-requires

@@ -1,18 +1,11 @@
 -- The literal for the line's reference; no loop.
 -- The line is an output's, whose reference is to a vertex that has a literal.
 use Rattle.load_file.proofs.Passing.{none-of, output-due, output-stored}
-use Rattle.load_file.proofs.Passing.{output-due, output-stored}
 use Rattle.load_file.proofs.output_literal.Statement.{statement}
 use Rattle.load_file.proofs.output_literal.Tie as tie
 use borrow.Author.Needs.{needs}
 use mathlib.Core.Path.{_∙_, sym}
 use native.Mathlib.Omega.{arith}
-
--- The literal for the line's reference; no loop.
--- The line is an output's, whose reference is to a vertex that has a literal.
-
--- The literal for the line's reference; no loop.
--- The line is an output's, whose reference is to a vertex that has a literal.
 
 read-line-requires : tie.Need-read-line-requires
 read-line-requires c κs = search needs
@@ -21,7 +14,7 @@ enum-known-found : tie.Need-enum-known-found
 enum-known-found c = search needs
 
 returns : tie.Need-returns
-returns c = absurd (none-of (rw (c .before .read-line .ensures ∙ c .before .before .before .before .pre .this) at (c .match .keys2)) (λ h. omega arith) (λ h. omega arith) (λ h. omega arith))
+returns c = absurd (none-of (rw (c .before .read-line .ensures ∙ c .before .before .before .before .pre .this) at (c .match .keys2)) (λ h. omega arith) (λ h. omega arith) (λ h. omega arith) (λ h. omega arith))
 
 literal-for-requires : tie.Need-literal-for-requires
 literal-for-requires c κs = output-due (c .before .before .before .before .before .before .pre) (sym (c .before .before .before .read-line .ensures) ∙ c .before .found .given .1)

@@ -4,11 +4,10 @@ use Rattle.aig.specs.Literal.{vertexOf}
 use Rattle.load_graph.specs.code.Slices.{tracedOf}
 use Rattle.load_graph.specs.declared.Counts.{Counts}
 use Rattle.load_model.specs.Build.{Traced, askGates}
-use Rattle.netlist_model.specs.Check.{andsOf, gatesIn, netlistIn, outputsIn}
+use Rattle.netlist_model.specs.Check.{andsOf, gatesIn, outputsIn}
 use Rattle.netlist_model.specs.Meaning.{andCount}
-use Rattle.netlist_model.specs.Netlist.{AllBelow, Downward, Gate, Netlist, gateRecord}
+use Rattle.netlist_model.specs.Netlist.{AllBelow, Downward, Gate, gateRecord}
 use Rattle.netlist_model.specs.Records.{fileRecords, recordOf}
-use Rattle.netlist_model.specs.declared.Summary.{Summary}
 use Rattle.netlist_model.specs.declared.Record.the-variants.{Output}
 use Rattle.table.specs.Limits.{maxAnds}
 use Rattle.text.specs.Split.{upTo}
@@ -16,10 +15,6 @@ use denote.Ref.{RefT, now}
 use lib.ListN.{drop, length}
 use mathlib.Core.List.{List, [], _++_, _∷_, map}
 use mathlib.Core.Path.{_≡_}
-
--- The netlist that an accepted file holds.
-unfoldable pub netlistOf : List ℕ → Summary → Netlist
-netlistOf file s = netlistIn (s .inputs) (fileRecords file)
 
 -- The literals of a file's first n vertices, and the graph, in their slices.
 abbrev pub trace : RefT (List ℕ) → ℕ → RefT (List ℕ) → Counts → Traced

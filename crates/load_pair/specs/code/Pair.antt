@@ -2,8 +2,10 @@
 use Prim.Native.Nat.{_*_, _+_, _-_, _≤_, ℕ}
 use Rattle.load_model.specs.Build.{PairBuilt, buildPair}
 use Rattle.load_model.specs.Load.{maxVertices}
-use Rattle.load_file.specs.code.File.{netlistOf}
-use Rattle.netlist_model.specs.code.Accepted.{HoldsNetlist}
+use Rattle.netlist_model.specs.Names.{Among}
+use Rattle.netlist_model.specs.Netlist.{Netlist}
+use Rattle.netlist_model.specs.Pairing.{paired}
+use Rattle.netlist_model.specs.code.Accepted.{HoldsNetlist, netlistOf}
 use Rattle.netlist_model.specs.declared.Summary.{Summary}
 use Rattle.table.specs.Limits.{maxAnds, maxOutputs}
 use Rattle.text.specs.Decimal.{written}
@@ -26,11 +28,14 @@ pub record TableRoom (table pairs outputs first vertices count : ℕ) : Type 0 w
   pub sides : 2 * maxOutputs ≤ outputs
   pub room : 3 + (2 * vertices - 2 * first) + 2 * count ≤ table
 
--- Two files with some counts are loaded: they hold netlists, with equally many inputs and outputs, and few enough ANDs. (RULES 1.11, 2.2)
+-- Two files with some counts are loaded: they hold netlists of one edition, with equally many inputs and outputs, the second one's names among
+-- the first one's, and few enough ANDs. (RULES 1.11, 2.2)
 pub record Agreed (one two : List ℕ) (s t : Summary) : Type 0 where
   pub left : HoldsNetlist one s (netlistOf one s)
   pub right : HoldsNetlist two t (netlistOf two t)
+  pub edition : s .edition ≡ t .edition
   pub inputs : s .inputs ≡ t .inputs
+  pub names : (name : List ℕ) → Among name (netlistOf two t .names) → Among name (netlistOf one s .names)
   pub outputs : s .outputs ≡ t .outputs
   pub ands : s .ands + t .ands ≤ maxAnds
 
@@ -41,9 +46,13 @@ pub record Enough (pairs look literals outputs : ℕ) : Type 0 where
   pub for-literals : 2 * maxVertices ≤ literals
   pub for-outputs : 2 * maxVertices ≤ outputs
 
+-- The second file's netlist with its inputs in the first file's order.
+abbrev pub secondOf : List ℕ → List ℕ → Summary → Summary → Netlist
+secondOf one two s t = paired (netlistOf one s) (netlistOf two t)
+
 -- The graph of both files.
 abbrev pub pairOf : List ℕ → List ℕ → Summary → Summary → PairBuilt
-pairOf one two s t = buildPair (netlistOf one s) (netlistOf two t)
+pairOf one two s t = buildPair (netlistOf one s) (secondOf one two s t)
 
 -- The literals of both files' outputs in their slice, those of the second after the most that the first can have.
 abbrev pub outputsOver : List ℕ → PairBuilt → List ℕ

@@ -2,9 +2,9 @@
 -- The measure is what is left of the vertices.
 use Prim.Native.Nat.{_-_, _≤_}
 use Rattle.load_model.specs.Build.{literalsFrom}
-use Rattle.load_file.proofs.FirstLiterals.{literals-begin, literals-end, literals-turn}
-use Rattle.load_file.proofs.write_first_literals.Statement.{statement}
-use Rattle.load_file.proofs.write_first_literals.Tie as tie
+use Rattle.load_inputs.proofs.FirstLiterals.{literals-begin, literals-end, literals-turn}
+use Rattle.load_inputs.proofs.write_by_place.Statement.{statement}
+use Rattle.load_inputs.proofs.write_by_place.Tie as tie
 use Rattle.words.proofs.Writing.{Writing}
 use borrow.Author.Needs.{needs}
 use native.Mathlib.Omega.{arith}
@@ -45,8 +45,8 @@ same-length c = c .before .loop .inv .1 .same
 returns : tie.Need-returns Inv-loop μ-loop
 returns c = literals-end (c .before .loop .inv .1) (c .loop-test .left)
 
-pub write-first-literals-spec : {M : Type 1} → statement M
-write-first-literals-spec =
+pub write-by-place-spec : {M : Type 1} → statement M
+write-by-place-spec =
     tie.close
     (tie.spec
     Inv-loop

@@ -1,0 +1,2 @@
+pub mod FirstLiterals
+pub mod Naming
