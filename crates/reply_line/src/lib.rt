@@ -9,14 +9,15 @@ ghost use Rattle.reply_line.specs.Line.{lineFor, roomFor};
 ghost use Rattle.report_format.specs.Report.{Printed};
 ghost use mathlib.Core.Path.{_≡_};
 
-// Puts the line of a reply on an output at the front of `out` and gives back its length. The setting is that of a Different.
-pub fn write_line(out: &mut [u8], output: u32, reply: Reply, setting: &[u8]) -> usize
-    ensures { λ r. ⌜ Printed (roomFor (saidOf reply) (now (setting .entry))) (lineFor output (saidOf reply) (now (setting .entry))) (now (out .entry)) (now (out .exit)) r ⌝ }
+// Puts the line of a reply on an output at the front of `out` and gives back its length. The edition is that of the pair of files, and the
+// setting that of a Different.
+pub fn write_line(out: &mut [u8], edition: u32, output: u32, reply: Reply, setting: &[u8]) -> usize
+    ensures { λ r. ⌜ Printed (roomFor (saidOf reply) (now (setting .entry))) (lineFor edition output (saidOf reply) (now (setting .entry))) (now (out .entry)) (now (out .exit)) r ⌝ }
 {
     match reply {
         Reply::Equal(counts) => report::write_reply(
             out,
-            netlist_model::EDITION,
+            edition,
             output,
             Word::Equal,
             b"",
@@ -26,7 +27,7 @@ pub fn write_line(out: &mut [u8], output: u32, reply: Reply, setting: &[u8]) -> 
         ),
         Reply::Different(counts) => report::write_reply(
             out,
-            netlist_model::EDITION,
+            edition,
             output,
             Word::Different,
             setting,
@@ -36,7 +37,7 @@ pub fn write_line(out: &mut [u8], output: u32, reply: Reply, setting: &[u8]) -> 
         ),
         Reply::Undecided(cause, counts) => report::write_reply(
             out,
-            netlist_model::EDITION,
+            edition,
             output,
             word_of(cause),
             b"",

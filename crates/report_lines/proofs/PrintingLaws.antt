@@ -22,15 +22,15 @@ pub record SameLengths (first here : Given) : Type 0 where
   pub setting : length (here .setting) ≡ length (first .setting)
 
 -- Before the comparison `here`: it is that many after the first, and the lines of those before it are stored.
-pub record Printing (first here : Given) (old : List ℕ) (start : ℕ) (out : List ℕ) (at : ℕ) : Type 0 where
+pub record Printing (edition : ℕ) (first here : Given) (old : List ℕ) (start : ℕ) (out : List ℕ) (at : ℕ) : Type 0 where
   pub place : here ≡ after (here .output) first
   pub same : SameLengths first here
-  pub lines : StoredWithin old start (here .output * replyRoom) (linesOf (comparisons (here .output) first)) out at
+  pub lines : StoredWithin old start (here .output * replyRoom) (linesOf edition (comparisons (here .output) first)) out at
 
 -- No line is stored before the first.
-pub printing-none : (first : Given) (out : List ℕ) (start : ℕ) → first .output ≡ 0 → Printing first first out start out start
+pub printing-none : (edition : ℕ) (first : Given) (out : List ℕ) (start : ℕ) → first .output ≡ 0 → Printing edition first first out start out start
 unfolding after linesOf comparisons
-printing-none first out start z =
+printing-none edition first out start z =
     record {
       place = rw z refl;
       same = record { room = refl; table = refl; marks = refl; setting = refl };
@@ -38,11 +38,11 @@ printing-none first out start z =
     }
 
 -- The slice keeps its length.
-pub printing-length : {first here : Given} {old : List ℕ} {start : ℕ} {out : List ℕ} {at : ℕ} → Printing first here old start out at → (outputs : ℕ)
+pub printing-length : {edition : ℕ} {first here : Given} {old : List ℕ} {start : ℕ} {out : List ℕ} {at : ℕ} → Printing edition first here old start out at → (outputs : ℕ)
     → here .output ≤ outputs → start + outputs * replyRoom ≤ length old → length out ≡ length old
 printing-length p outputs within room = stored-length (omega (arith, p .lines .short)) (p .lines .stored)
 
-module _ {first here : Given} {old : List ℕ} {start : ℕ} {out : List ℕ} {at : ℕ} (p : Printing first here old start out at) (outputs : ℕ) (more : here .output < outputs)
+module _ {edition : ℕ} {first here : Given} {old : List ℕ} {start : ℕ} {out : List ℕ} {at : ℕ} (p : Printing edition first here old start out at) (outputs : ℕ) (more : here .output < outputs)
     (room : start + outputs * replyRoom ≤ length old) where
   enough : start + (here .output * replyRoom + replyRoom) ≤ length old
   enough = omega arith
@@ -60,13 +60,13 @@ module _ {first here : Given} {old : List ℕ} {start : ℕ} {out : List ℕ} {a
       }
 
   -- Its line is stored with those before it.
-  pub printing-more : {then : Given} {new : List ℕ} {end : ℕ} → then ≡ next here → SameLengths first then → StoredWithin out at replyRoom (comparisonLine here) new end
-      → Printing first then old start new end
+  pub printing-more : {then : Given} {new : List ℕ} {end : ℕ} → then ≡ next here → SameLengths first then → StoredWithin out at replyRoom (comparisonLine edition here) new end
+      → Printing edition first then old start new end
   unfolding next after
   printing-more {then} {new} {end} e same h =
       let count : then .output ≡ here .output + 1 = ap (λ (g : Given). g .output) e in
-      let lines : linesOf (comparisons (suc (here .output)) first) ≡ linesOf (comparisons (here .output) first) ++ comparisonLine here =
-      lines-more (here .output) first ∙ ap (λ (g : Given). linesOf (comparisons (here .output) first) ++ comparisonLine g) (sym (p .place)) in
+      let lines : linesOf edition (comparisons (suc (here .output)) first) ≡ linesOf edition (comparisons (here .output) first) ++ comparisonLine edition here =
+      lines-more edition (here .output) first ∙ ap (λ (g : Given). linesOf edition (comparisons (here .output) first) ++ comparisonLine edition g) (sym (p .place)) in
       let wide : here .output * replyRoom + replyRoom ≡ (here .output + 1) * replyRoom = omega arith in
       record {
         place = e ∙ ap next (p .place) ∙ rw (count, add-one (here .output)) refl;
@@ -75,13 +75,13 @@ module _ {first here : Given} {old : List ℕ} {start : ℕ} {out : List ℕ} {a
       }
 
 -- After the last one all lines are stored, and the slices hold what it left.
-pub printing-end : {first here : Given} {old : List ℕ} {start : ℕ} {out : List ℕ} {at : ℕ} → Printing first here old start out at → (outputs : ℕ)
+pub printing-end : {edition : ℕ} {first here : Given} {old : List ℕ} {start : ℕ} {out : List ℕ} {at : ℕ} → Printing edition first here old start out at → (outputs : ℕ)
     → here .output ≡ outputs
-    → StoredWithin old start (outputs * replyRoom) (linesOf (comparisons outputs first)) out at
+    → StoredWithin old start (outputs * replyRoom) (linesOf edition (comparisons outputs first)) out at
     × _≡_ {A = Given} (record { table = here .table; output = outputs; limits = here .limits; room = here .room; marks = here .marks; setting = here .setting })
     (after outputs first)
-printing-end {first} {here} {old} {start} {out} {at} p outputs e = (
-  subst (λ (n : ℕ). StoredWithin old start (n * replyRoom) (linesOf (comparisons n first)) out at) e (p .lines),
+printing-end {edition} {first} {here} {old} {start} {out} {at} p outputs e = (
+  subst (λ (n : ℕ). StoredWithin old start (n * replyRoom) (linesOf edition (comparisons n first)) out at) e (p .lines),
   subst
       (λ (n : ℕ).
       _≡_ {A = Given} (record { table = here .table; output = n; limits = here .limits; room = here .room; marks = here .marks; setting = here .setting })

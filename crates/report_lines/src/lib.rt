@@ -11,6 +11,7 @@ ghost use mathlib.Core.Path.{_≡_};
 // Puts the head line and the lines of a loaded table at the front of `out`, and gives back their length.
 pub fn report_table(
     out: &mut [u8],
+    edition: u32,
     table: &mut [u32],
     pairs: &mut [u32],
     look: &mut [u32],
@@ -22,7 +23,7 @@ pub fn report_table(
 ) -> usize
     requires { ⌜ Ready (now table) (length (now setting)) ⌝ }
     requires { ⌜ reportRoom ≤ length (now out) ⌝ }
-    ensures { λ r. ⌜ StoredWithin (now (out .entry)) 0 reportRoom (tableLines (slices table pairs look diagrams stages rows marks setting .entry)) (now (out .exit)) r ⌝ }
+    ensures { λ r. ⌜ StoredWithin (now (out .entry)) 0 reportRoom (tableLines edition (slices table pairs look diagrams stages rows marks setting .entry)) (now (out .exit)) r ⌝ }
     ensures { λ _. ⌜ LeftAfter (outputsOf (now (table .entry))) (slices table pairs look diagrams stages rows marks setting) ⌝ }
 {
     let start = report::write_head(out);
@@ -30,6 +31,7 @@ pub fn report_table(
     report_outputs(
         out,
         start,
+        edition,
         outputs,
         table,
         pairs,
@@ -47,6 +49,7 @@ pub fn report_table(
 fn report_outputs(
     out: &mut [u8],
     start: usize,
+    edition: u32,
     outputs: u32,
     table: &mut [u32],
     pairs: &mut [u32],
@@ -60,7 +63,7 @@ fn report_outputs(
     requires { ⌜ Ready (now table) (length (now setting)) ⌝ }
     requires { ⌜ outputs ≡ outputsOf (now table) ⌝ }
     requires { ⌜ start + outputs * replyRoom ≤ length (now out) ⌝ }
-    ensures { λ r. ⌜ StoredWithin (now (out .entry)) start (outputs * replyRoom) (firstLines outputs (slices table pairs look diagrams stages rows marks setting .entry)) (now (out .exit)) r ⌝ }
+    ensures { λ r. ⌜ StoredWithin (now (out .entry)) start (outputs * replyRoom) (firstLines edition outputs (slices table pairs look diagrams stages rows marks setting .entry)) (now (out .exit)) r ⌝ }
     ensures { λ _. ⌜ LeftAfter outputs (slices table pairs look diagrams stages rows marks setting) ⌝ }
 {
     let mut at = start;
@@ -69,6 +72,7 @@ fn report_outputs(
         at = report_output::report_output(
             out,
             at,
+            edition,
             output,
             table,
             pairs,

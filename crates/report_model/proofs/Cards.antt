@@ -3,11 +3,13 @@ use Rattle.aig.specs.Fold.{foldOf}
 use Rattle.aig.specs.Lookup.{firstVertex, ownWords}
 use Rattle.compare_model.specs.Compare.{answerTo, answered, beyond?, compared, graphWords, outputsLeft, outside?, problemOf, refusalOf, saidBy, settingBytes, settingLeft, shortSlice?, tableLeft, turnedBack}
 use Rattle.load_model.specs.Build.{askAnd, askGate, askGates, askXor, buildFile, buildPair, emptyBuild, foldedOrNot, foundOrMade, literalsFrom}
-use Rattle.load_model.specs.Load.{countsDiffer?, loadResult, readResult, tableAfter, tableOf, tableWords, tallyOf}
+use Rattle.load_model.specs.Load.{countsDiffer?, loadResult, readResult, readSecond, tableAfter, tableOf, tableWords, tallyOf}
 use Rattle.load_model.specs.Load.{shortSlice? as shortLoad?}
-use Rattle.netlist_model.specs.Check.{below?, checkFile, checkFrom, due?, dueAfter, finish, formed?, gatesIn, header?, known?, limited?, more?, outputsIn, readBy, readNetlist}
+use Rattle.netlist_model.specs.Check.{below?, checkFile, checkFrom, due?, dueAfter, finish, formed?, gatesIn, header?, known?, limited?, more?, namesIn, outputsIn, readBy, readNetlist, twice?}
 use Rattle.netlist_model.specs.Meaning.{andCount}
-use Rattle.netlist_model.specs.Records.{fieldsRecord, fileRecords, operationOf, recordOf, recordsOf, unended}
+use Rattle.netlist_model.specs.Names.{firstLacked, nameCount, placeOf}
+use Rattle.netlist_model.specs.Pairing.{inputFor, paired, referenceFor}
+use Rattle.netlist_model.specs.Records.{fieldsRecord, fileLines, lineOf, name?, operationOf, partLines, recordOf, unended}
 use Rattle.product_model.specs.Run.{_andThen_, addPart, addRow, countStep, plain, run}
 use Rattle.report_format.specs.Report.{headLine, refusedLine, replyLine}
 use Rattle.report_model.specs.Cards.{Cards}
@@ -29,9 +31,9 @@ use Rattle.truth.specs.Truth.{conj, constant?, constantly, input, invert, same?
 use mathlib.Core.Path.{refl}
 
 pub cards : Cards
-unfolding askXor checkFile checkFrom below? due? dueAfter finish formed? gatesIn header? known? limited? more? outputsIn readBy readNetlist
-    digitsFrom numeralOf fieldsRecord fileRecords operationOf recordOf recordsOf unended foldOf firstVertex ownWords askAnd askGate askGates
-    buildFile buildPair emptyBuild foldedOrNot foundOrMade literalsFrom countsDiffer? loadResult readResult shortLoad? tallyOf andCount firstRefusal
+unfolding askXor checkFile checkFrom below? due? dueAfter finish formed? gatesIn header? known? limited? more? nameCount namesIn outputsIn readBy readNetlist twice?
+    digitsFrom numeralOf fieldsRecord fileLines lineOf name? operationOf partLines recordOf unended foldOf firstVertex ownWords askAnd askGate askGates
+    buildFile buildPair emptyBuild foldedOrNot foundOrMade literalsFrom countsDiffer? firstLacked inputFor loadResult paired placeOf readResult readSecond referenceFor shortLoad? tallyOf andCount firstRefusal
     tableAfter tableOf tableWords answerTo answered beyond? compared graphWords outputsLeft outside? problemOf refusalOf settingBytes settingLeft
     shortSlice? tableLeft turnedBack outputWords pairs rowsOf sideOutputs malformed? beyondLimits? outOfOrder? downward? allBelow? rowBelow? graphOf
     functionsOf firstFunctions inputsFrom vertexValues conj constant? constantly input invert same? sweep resultOf conclude
@@ -40,4 +42,4 @@ unfolding askXor checkFile checkFrom below? due? dueAfter finish formed? gatesIn
     dropped? open? waits? saidBy _andThen_ addPart addRow countStep plain run among distinct filter alike? cofactors depends? parts size terminal?
     firstDifference valueAt reportOf reported shortRoom? after next comparisons comparisonLine linesOf headLine replyLine refusedLine decimal
     digitsWithin
-cards = record { sample = refl; twice = refl; empty = refl }
+cards = record { sample = refl; twice = refl; named = refl; empty = refl }

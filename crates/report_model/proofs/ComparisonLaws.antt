@@ -14,12 +14,14 @@ after-next zero g = refl
 after-next (suc n) g = ap next (after-next n g)
 
 -- The lines of one comparison more are those before and its own.
-pub lines-more : (n : ℕ) (g : Given) → linesOf (comparisons (suc n) g) ≡ linesOf (comparisons n g) ++ comparisonLine (after n g)
+pub lines-more : (edition n : ℕ) (g : Given)
+    → linesOf edition (comparisons (suc n) g) ≡ linesOf edition (comparisons n g) ++ comparisonLine edition (after n g)
 unfolding linesOf comparisons after
-lines-more zero g = append-nil (comparisonLine g)
-lines-more (suc n) g =
-    ap (_++_ (comparisonLine g)) (lines-more n (next g) ∙ ap (λ (h : Given). linesOf (comparisons n (next g)) ++ comparisonLine h) (after-next n g))
-    ∙ sym (append-assoc (comparisonLine g) (linesOf (comparisons n (next g))) (comparisonLine (next (after n g))))
+lines-more edition zero g = append-nil (comparisonLine edition g)
+lines-more edition (suc n) g =
+    ap (_++_ (comparisonLine edition g))
+    (lines-more edition n (next g) ∙ ap (λ (h : Given). linesOf edition (comparisons n (next g)) ++ comparisonLine edition h) (after-next n g))
+    ∙ sym (append-assoc (comparisonLine edition g) (linesOf edition (comparisons n (next g))) (comparisonLine edition (next (after n g))))
 
 -- What holds of a table since it was loaded holds after every comparison.
 pub since-after : (n : ℕ) (g : Given) → Accepted (g .table) → Since (g .table) (after n g .table)

@@ -1,10 +1,11 @@
 -- The report by cases: slices that are too short, a refused load, an accepted one.
 use Prim.Native.Nat.{_*_, _≤_, ℕ}
 use Rattle.load_model.proofs.LoadLaws.{load-only, load-table}
+use Rattle.load_model.proofs.PairedLaws.{loadable-paired}
 use Rattle.load_model.proofs.TableLaws.{table-accepted}
-use Rattle.load_model.specs.Load.{Answer, LoadRoom, accepted, loadResult, maxVertices, tableAfter}
+use Rattle.load_model.specs.Load.{Answer, LoadRoom, accepted, loadResult, maxVertices, tableLoaded}
 use Rattle.load_model.specs.declared.Tally.{Tally}
-use Rattle.netlist_model.specs.Check.{readNetlist}
+use Rattle.netlist_model.specs.Pairing.{paired}
 use Rattle.report_model.specs.Report.{Lent, firstOf, loadRoom, reportOf, reportRoom, reported, rowLimit, short?, shortRoom?, untouched, works?}
 use Rattle.table.specs.Accepted.{Accepted}
 use Rattle.table.specs.Limits.{maxInputs}
@@ -36,11 +37,11 @@ long-enough out rows marks setting h =
     }
 
 -- The table of an accepted load passes tests 10 and 11.
-pub loaded-accepted : (left right : List ℕ) (room : LoadRoom) (t : Tally) (old : List ℕ) → loadResult left right room ≡ accepted t
-    → Accepted (tableAfter (loadResult left right room) (readNetlist left) (readNetlist right) old)
-loaded-accepted left right room t old e =
-    let h = load-only left right room t e in
-    rw (load-table h old) (table-accepted (h .first) (h .second) (h .loadable) old)
+pub loaded-accepted : (left right : List ℕ) (room : LoadRoom) (edition : ℕ) (t : Tally) (old : List ℕ) → loadResult left right room ≡ accepted edition t
+    → Accepted (tableLoaded (loadResult left right room) left right old)
+loaded-accepted left right room edition t old e =
+    let h = load-only left right room edition t e in
+    rw (load-table h old) (table-accepted (h .first) (paired (h .first) (h .second)) (loadable-paired (h .loadable)) old)
 
 module _ (left right : List ℕ) (lent : Lent) where
   -- Where a slice is too short nothing is written.
@@ -49,13 +50,13 @@ module _ (left right : List ℕ) (lent : Lent) where
   report-short h = rw h refl
 
   module _ (long : short? lent ≡ false) (loaded : Answer) (e : loadResult left right (loadRoom lent) ≡ loaded) (table : List ℕ)
-      (t : table ≡ tableAfter loaded (readNetlist left) (readNetlist right) (lent .table)) where
+      (t : table ≡ tableLoaded loaded left right (lent .table)) where
     -- Otherwise the load decides.
     pub report-loaded : reportOf left right lent ≡ reported loaded (firstOf lent table) (lent .out)
     unfolding reportOf
     report-loaded = rw (long, e, t) refl
 
   -- Where the load is accepted the slices to work in are worked in.
-  pub works-accepted : short? lent ≡ false → (t : Tally) → loadResult left right (loadRoom lent) ≡ accepted t → works? left right lent ≡ true
+  pub works-accepted : short? lent ≡ false → (edition : ℕ) (t : Tally) → loadResult left right (loadRoom lent) ≡ accepted edition t → works? left right lent ≡ true
   unfolding works?
-  works-accepted long t e = rw (long, e) refl
+  works-accepted long edition t e = rw (long, e) refl

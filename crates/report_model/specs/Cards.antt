@@ -1,8 +1,7 @@
 -- Reports computed from the bytes of the files.
 use Prim.Native.Nat.{_*_, ℕ}
-use Rattle.load_model.specs.Cards.{andFile, withOneGate}
+use Rattle.load_model.specs.Cards.{andFile, namedAnd, turnedAnd, withOneGate}
 use Rattle.load_model.specs.Load.{maxTable, maxVertices}
-use Rattle.netlist_model.specs.Limits.{edition}
 use Rattle.report_format.specs.Report.{headLine, refusedLine, replyLine}
 use Rattle.report_format.specs.declared.Vertex.the-variants.{None}
 use Rattle.report_format.specs.declared.Word.the-variants.{Different, Equal}
@@ -44,8 +43,10 @@ builtTwice =
 
 pub record Cards : Type 0 where
   -- "With left `N⇥1⇥2⇥1⇥1`, `G⇥and⇥2⇥4`, `O⇥6`, and right the same but `or`, it prints .. `1⇥0⇥different⇥01⇥-⇥4⇥6`" (RULES 11.7)
-  pub sample : printed andFile sameButOr ≡ headLine ++ replyLine edition 0 Different (48 ∷ 49 ∷ []) None 4 6
+  pub sample : printed andFile sameButOr ≡ headLine ++ replyLine 1 0 Different (48 ∷ 49 ∷ []) None 4 6
   -- ".. Equal, rows 7, steps 18": the second comparison finds merged what the first one merged. (RULES 13.3)
-  pub twice : printed xorTwice builtTwice ≡ headLine ++ (replyLine edition 0 Equal [] None 7 18 ++ replyLine edition 1 Equal [] None 0 0)
+  pub twice : printed xorTwice builtTwice ≡ headLine ++ (replyLine 1 0 Equal [] None 7 18 ++ replyLine 1 1 Equal [] None 0 0)
+  -- "the reply line prints that edition": `and 2 5` against `and 3 4`, names `a b` against `b a`. (RULES 11.4, 13.2)
+  pub named : printed namedAnd turnedAnd ≡ headLine ++ replyLine 2 0 Equal [] None 0 0
   -- "A file that cannot be read is taken as empty", "an empty file: line 1" (RULES 8.1, 11.1)
   pub empty : printed [] andFile ≡ refusedLine 5 1 1

@@ -1,8 +1,7 @@
 -- The report that the program prints of two files, and what its call leaves in the slices that it is lent.
 use Prim.Native.Nat.{_*_, _+_, suc, zero, ℕ}
 use Rattle.compare_model.specs.Compare.{CompareRoom, Given, compared, overFront}
-use Rattle.load_model.specs.Load.{Answer, LoadRoom, accepted, loadResult, maxVertices, refused, tableAfter}
-use Rattle.netlist_model.specs.Check.{readNetlist}
+use Rattle.load_model.specs.Load.{Answer, LoadRoom, accepted, loadResult, maxVertices, refused, tableLoaded}
 use Rattle.reply_line.specs.Line.{lineFor}
 use Rattle.report_format.specs.Report.{LINE-ROOM, headLine, refusedLine}
 use Rattle.sweep_model.specs.State.{Limits}
@@ -74,25 +73,25 @@ unfoldable pub comparisons : ℕ → Given → List Given
 comparisons zero g = []
 comparisons (suc n) g = g ∷ comparisons n (next g)
 
--- "then a line each": the line of a comparison. A Different's setting is "one byte an input .. to the front of the lent setting
+-- "then a line each": the line of a comparison, with the edition of the pair. A Different's setting is "one byte an input .. to the front of the lent setting
 -- slice". (RULES 7.2, 11.3)
-unfoldable pub comparisonLine : Given → List ℕ
-comparisonLine g = let left = compared g in lineFor (g .output) (left .reply) (take (inputsOf (g .table)) (left .setting))
+unfoldable pub comparisonLine : ℕ → Given → List ℕ
+comparisonLine edition g = let left = compared g in lineFor edition (g .output) (left .reply) (take (inputsOf (g .table)) (left .setting))
 
 -- The lines of comparisons.
-unfoldable pub linesOf : List Given → List ℕ
-linesOf [] = []
-linesOf (g ∷ gs) = comparisonLine g ++ linesOf gs
+unfoldable pub linesOf : ℕ → List Given → List ℕ
+linesOf edition [] = []
+linesOf edition (g ∷ gs) = comparisonLine edition g ++ linesOf edition gs
 
 -- "loads once, compares every output": as many comparisons as the table has outputs, and none after a refused load. (RULES 11.2)
 abbrev pub comparisonCount : Answer → List ℕ → ℕ
 comparisonCount (refused number file line) table = 0
-comparisonCount (accepted tally) table = outputsOf table
+comparisonCount (accepted edition tally) table = outputsOf table
 
 -- "prints a head line, then a line each." "A refused load prints only `refused⇥number⇥file⇥line`." (RULES 11.3, 11.6)
 abbrev pub reportBytes : Answer → List Given → List ℕ
 reportBytes (refused number file line) gs = refusedLine number file line
-reportBytes (accepted tally) gs = headLine ++ linesOf gs
+reportBytes (accepted edition tally) gs = headLine ++ linesOf edition gs
 
 -- A report at the front of its slice, the bytes after it unchanged; the other slices as the last comparison left them.
 unfoldable pub reported : Answer → Given → List ℕ → Report
@@ -133,12 +132,12 @@ untouched lent = record { count = 0; out = lent .out; table = lent .table; marks
 unfoldable pub reportOf : List ℕ → List ℕ → Lent → Report
 reportOf left right lent =
     let loaded = loadResult left right (loadRoom lent) in
-    let table = tableAfter loaded (readNetlist left) (readNetlist right) (lent .table) in
+    let table = tableLoaded loaded left right (lent .table) in
     cond (short? lent) (untouched lent) (reported loaded (firstOf lent table) (lent .out))
 
 abbrev pub accepted? : Answer → Bool
 accepted? (refused number file line) = false
-accepted? (accepted tally) = true
+accepted? (accepted edition tally) = true
 
 -- Whether the slices to work in are worked in: no slice is too short, and the load is not refused.
 unfoldable pub works? : List ℕ → List ℕ → Lent → Bool

@@ -33,11 +33,11 @@ module _ (g : Given) (reply : Reply) (table marks setting : List ℕ) (e : left 
       e)
 
   -- The line of its reply is its line.
-  pub compared-stored : inputsOf (g .table) ≤ maxInputs → inputsOf (g .table) ≤ length setting → {out new : List ℕ} {at end : ℕ}
-      → StoredWithin out at (LINE-ROOM + length (take (inputsOf (g .table)) setting)) (lineFor (g .output) (saidOf reply) (take (inputsOf (g .table)) setting)) new end
-      → StoredWithin out at replyRoom (comparisonLine g) new end
+  pub compared-stored : (edition : ℕ) → inputsOf (g .table) ≤ maxInputs → inputsOf (g .table) ≤ length setting → {out new : List ℕ} {at end : ℕ}
+      → StoredWithin out at (LINE-ROOM + length (take (inputsOf (g .table)) setting)) (lineFor edition (g .output) (saidOf reply) (take (inputsOf (g .table)) setting)) new end
+      → StoredWithin out at replyRoom (comparisonLine edition g) new end
   unfolding comparisonLine
-  compared-stored within long {out} {new} {at} {end} h =
+  compared-stored edition within long {out} {new} {at} {end} h =
       subst (λ (bytes : List ℕ). StoredWithin out at replyRoom bytes new end)
-      (ap (λ (l : Left). lineFor (g .output) (l .reply) (take (inputsOf (g .table)) (l .setting))) e)
+      (ap (λ (l : Left). lineFor edition (g .output) (l .reply) (take (inputsOf (g .table)) (l .setting))) e)
       (record { stored = h .stored; short = omega (arith, h .short, length-take-le (inputsOf (g .table)) setting long) })

@@ -14,6 +14,7 @@ ghost use lib.ListN.{length};
 pub fn report_output(
     out: &mut [u8],
     at: usize,
+    edition: u32,
     output: u32,
     table: &mut [u32],
     pairs: &mut [u32],
@@ -26,7 +27,7 @@ pub fn report_output(
 ) -> usize
     requires { ⌜ Ready (now table) (length (now setting)) ⌝ }
     requires { ⌜ at + replyRoom ≤ length (now out) ⌝ }
-    ensures { λ r. ⌜ StoredWithin (now (out .entry)) at replyRoom (comparisonLine (asked output (slices table pairs look diagrams stages rows marks setting .entry))) (now (out .exit)) r ⌝ }
+    ensures { λ r. ⌜ StoredWithin (now (out .entry)) at replyRoom (comparisonLine edition (asked output (slices table pairs look diagrams stages rows marks setting .entry))) (now (out .exit)) r ⌝ }
     ensures { λ _. ⌜ LeftToNext output (slices table pairs look diagrams stages rows marks setting) ⌝ }
 {
     let limits = Limits {
@@ -47,5 +48,5 @@ pub fn report_output(
         marks,
         setting,
     );
-    report_parts::put_line(out, at, output, reply, &setting[..inputs])
+    report_parts::put_line(out, at, edition, output, reply, &setting[..inputs])
 }

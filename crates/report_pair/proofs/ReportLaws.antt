@@ -1,17 +1,16 @@
 -- What the call gives back and leaves is the report.
-use Prim.Native.Nat.{_*_, _+_, _≤_, ℕ}
+use Prim.Native.Nat.{_+_, _≤_, ℕ}
 use Rattle.compare_model.specs.Compare.{Given, overFront}
 use Rattle.comparer.specs.Lent.{Slices, Unchanged}
 use Rattle.load_model.specs.Lent.{Kept, Working}
-use Rattle.load_model.specs.Load.{Answer, LoadRoom, accepted, loadResult, refused, tableAfter}
+use Rattle.load_model.specs.Load.{Answer, LoadRoom, accepted, loadResult, refused, tableLoaded}
 use Rattle.load_model.specs.declared.Tally.{Tally}
-use Rattle.netlist_model.specs.Check.{readNetlist}
 use Rattle.report_format.specs.Report.{LINE-ROOM, Printed, StoredWithin, headLine, lineLength, linePut, refusedLine}
 use Rattle.report_model.proofs.ReportLaws.{loaded-accepted, report-loaded}
-use Rattle.report_model.specs.Report.{Lent, after, comparisons, firstOf, linesOf, loadRoom, replyRoom, reportOf, reportRoom, reported, short?}
+use Rattle.report_model.specs.Report.{Lent, after, comparisons, firstOf, linesOf, loadRoom, reportOf, reportRoom, reported, short?}
 use Rattle.report_pair.specs.Lent.{Front, reportLeft}
 use Rattle.report_output.specs.code.Slices.{Ready}
-use Rattle.table.specs.Limits.{maxInputs, maxOutputs}
+use Rattle.table.specs.Limits.{maxInputs}
 use Rattle.table.specs.Table.{outputsOf}
 use Rattle.text.specs.Decimal.{Stored, written}
 use borrow.Author.Tests.{le-ltb}
@@ -29,13 +28,13 @@ front-stored {new = new} {count = count} room same p =
     record { within = within; front = sym (length-take-le count new within) }
 
 -- The table of an accepted load, and a setting slice that is long enough.
-pub table-ready : (left right : List ℕ) (room : LoadRoom) (loaded : Answer) (tally : Tally) → loaded ≡ loadResult left right room → loaded ≡ accepted tally
-    → (table old : List ℕ) → table ≡ tableAfter loaded (readNetlist left) (readNetlist right) old → {setting : ℕ} → maxInputs ≤ setting → Ready table setting
-table-ready left right room loaded tally e f table old t long =
-    record { accepted = rw (t, e) (loaded-accepted left right room tally old (sym e ∙ f)); room = long }
+pub table-ready : (left right : List ℕ) (room : LoadRoom) (loaded : Answer) (edition : ℕ) (tally : Tally) → loaded ≡ loadResult left right room → loaded ≡ accepted edition tally
+    → (table old : List ℕ) → table ≡ tableLoaded loaded left right old → {setting : ℕ} → maxInputs ≤ setting → Ready table setting
+table-ready left right room loaded edition tally e f table old t long =
+    record { accepted = rw (t, e) (loaded-accepted left right room edition tally old (sym e ∙ f)); room = long }
 
 module _ (left right : List ℕ) (lent : Lent) (long : short? lent ≡ false) (loaded : Answer) (e : loaded ≡ loadResult left right (loadRoom lent)) (table : List ℕ)
-    (t : table ≡ tableAfter loaded (readNetlist left) (readNetlist right) (lent .table)) where
+    (t : table ≡ tableLoaded loaded left right (lent .table)) where
   -- The line of a refused load.
   pub refused-report : (number file line : ℕ) → loaded ≡ refused number file line → LINE-ROOM ≤ length (lent .out) → (out : List ℕ) (count : ℕ)
       → Printed LINE-ROOM (refusedLine number file line) (lent .out) out count
@@ -49,19 +48,19 @@ module _ (left right : List ℕ) (lent : Lent) (long : short? lent ≡ false) (l
       ∙ sym (report-loaded left right lent long (refused number file line) (sym e ∙ f) table (rw f at t))
 
   -- The head line and the lines of an accepted load.
-  pub accepted-report : (tally : Tally) → loaded ≡ accepted tally → (first last : Given) (out : List ℕ) (count : ℕ) → first ≡ firstOf lent table
-      → Stored (lent .out) 0 (headLine ++ linesOf (comparisons (outputsOf table) first)) out count → last ≡ after (outputsOf table) first
+  pub accepted-report : (edition : ℕ) (tally : Tally) → loaded ≡ accepted edition tally → (first last : Given) (out : List ℕ) (count : ℕ) → first ≡ firstOf lent table
+      → Stored (lent .out) 0 (headLine ++ linesOf edition (comparisons (outputsOf table) first)) out count → last ≡ after (outputsOf table) first
       → reportLeft count out (last .table) (last .marks) (last .setting) ≡ reportOf left right lent
   unfolding reported written
-  accepted-report tally f first last out count g p l =
-      let bytes : List ℕ = headLine ++ linesOf (comparisons (outputsOf table) (firstOf lent table)) in
-      let same : headLine ++ linesOf (comparisons (outputsOf table) first) ≡ bytes = rw g refl in
+  accepted-report edition tally f first last out count g p l =
+      let bytes : List ℕ = headLine ++ linesOf edition (comparisons (outputsOf table) (firstOf lent table)) in
+      let same : headLine ++ linesOf edition (comparisons (outputsOf table) first) ≡ bytes = rw g refl in
       let z : 0 + length bytes ≡ length bytes = omega arith in
       let size : count ≡ length bytes = p .place ∙ rw same z in
       let list : out ≡ overFront bytes (lent .out) = rw (same, z) at (p .list) in
       ap₂ (λ (n : ℕ) (new : List ℕ). reportLeft n new (last .table) (last .marks) (last .setting)) size list
       ∙ ap (λ (g : Given). reportLeft (length bytes) (overFront bytes (lent .out)) (g .table) (g .marks) (g .setting)) (l ∙ ap (after (outputsOf table)) g)
-      ∙ sym (report-loaded left right lent long (accepted tally) (sym e ∙ f) table (rw f at t))
+      ∙ sym (report-loaded left right lent long (accepted edition tally) (sym e ∙ f) table (rw f at t))
 
 -- The four slices that load works in.
 abbrev loadWorking : Slices → Working

@@ -28,8 +28,9 @@ pub fn report_pair(
     let loaded = load::load(left, right, table, pairs, look, diagrams, stages);
     match loaded {
         Loaded::Refused { number, file, line } => report::write_refused(out, number, file, line),
-        Loaded::Accepted(_) => report_lines::report_table(
+        Loaded::Accepted { edition, tally: _ } => report_lines::report_table(
             out,
+            edition,
             table,
             pairs,
             look,

@@ -27,10 +27,17 @@ pub fn is_short(out: usize, rows: usize, marks: usize, setting: usize) -> bool
 }
 
 // Stores the line of a reply in `out` from `at` on, and gives back the place after it.
-pub fn put_line(out: &mut [u8], at: usize, output: u32, reply: Reply, setting: &[u8]) -> usize
+pub fn put_line(
+    out: &mut [u8],
+    at: usize,
+    edition: u32,
+    output: u32,
+    reply: Reply,
+    setting: &[u8],
+) -> usize
     requires { ⌜ at + (LINE-ROOM + length (now setting)) ≤ length (now out) ⌝ }
-    ensures { λ r. ⌜ StoredWithin (now (out .entry)) at (LINE-ROOM + length (now (setting .entry))) (lineFor output (saidOf reply) (now (setting .entry))) (now (out .exit)) r ⌝ }
+    ensures { λ r. ⌜ StoredWithin (now (out .entry)) at (LINE-ROOM + length (now (setting .entry))) (lineFor edition output (saidOf reply) (now (setting .entry))) (now (out .exit)) r ⌝ }
 {
     let end = at + report_format::LINE_ROOM + setting.len();
-    at + reply_line::write_line(&mut out[at..end], output, reply, setting)
+    at + reply_line::write_line(&mut out[at..end], edition, output, reply, setting)
 }

@@ -12,15 +12,15 @@ use mathlib.Core.Path.{_∙_, ap, refl}
 use native.Mathlib.Omega.{arith}
 
 abbrev Inv-loop : tie.InvT-loop
-Inv-loop out₀ start outputs table₀ pairs₀ look₀ diagrams₀ stages₀ rows₀ marks₀ setting₀ at₀ output₀ out table pairs look diagrams stages rows marks setting at output =
-    Printing (asked 0 (holding table₀ pairs₀ look₀ diagrams₀ stages₀ rows₀ marks₀ setting₀)) (asked output (holding table pairs look diagrams stages rows marks setting)) out₀ start out at × (output ≤ outputs)
+Inv-loop out₀ start edition outputs table₀ pairs₀ look₀ diagrams₀ stages₀ rows₀ marks₀ setting₀ at₀ output₀ out table pairs look diagrams stages rows marks setting at output =
+    Printing edition (asked 0 (holding table₀ pairs₀ look₀ diagrams₀ stages₀ rows₀ marks₀ setting₀)) (asked output (holding table pairs look diagrams stages rows marks setting)) out₀ start out at × (output ≤ outputs)
 
 abbrev μ-loop : tie.MeasureT-loop
-μ-loop out₀ start outputs table₀ pairs₀ look₀ diagrams₀ stages₀ rows₀ marks₀ setting₀ at₀ output₀ out table pairs look diagrams stages rows marks setting at output =
+μ-loop out₀ start edition outputs table₀ pairs₀ look₀ diagrams₀ stages₀ rows₀ marks₀ setting₀ at₀ output₀ out table pairs look diagrams stages rows marks setting at output =
     outputs - output
 
 loop-holds : tie.Need-loop-holds Inv-loop μ-loop
-loop-holds c = (printing-none _ _ _ refl, omega arith)
+loop-holds c = (printing-none _ _ _ _ refl, omega arith)
 
 report-output-requires : tie.Need-report-output-requires Inv-loop μ-loop
 report-output-requires c κs =

@@ -94,7 +94,7 @@ returns c =
     let table-left = call .last .0 in
     let marks-left = call .last .1 .1 .1 .1 .1 .1 .1 .1 .0 in
     let setting-left = call .last .1 .1 .1 .1 .1 .1 .1 .1 .1 .0 in (
-      compared-stored g (call .result) table-left marks-left setting-left (call .ensures .result) within (omega (arith, within, start .pre .0 .room, setting .setting .given))
+      compared-stored g (call .result) table-left marks-left setting-left (call .ensures .result) (a .edition) within (omega (arith, within, start .pre .0 .room, setting .setting .given))
           (rw (inputs .ensures) at (c .before .before .put-line .ensures)),
       compared-next g (call .result) table-left marks-left setting-left (call .ensures .result) _
           (same-room (pairs .pairs .given) (look .look .given) (diagrams .diagrams .given) (stages .stages .given) (rows .rows .given)),

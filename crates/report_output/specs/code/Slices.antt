@@ -24,12 +24,12 @@ asked output s =
     }
 
 -- The lines of the first n outputs.
-abbrev pub firstLines : ℕ → Slices → List ℕ
-firstLines n s = linesOf (comparisons n (asked 0 s))
+abbrev pub firstLines : ℕ → ℕ → Slices → List ℕ
+firstLines edition n s = linesOf edition (comparisons n (asked 0 s))
 
 -- The head line and the lines of all outputs.
-abbrev pub tableLines : Slices → List ℕ
-tableLines s = headLine ++ firstLines (outputsOf (s .table)) s
+abbrev pub tableLines : ℕ → Slices → List ℕ
+tableLines edition s = headLine ++ firstLines edition (outputsOf (s .table)) s
 
 -- The slices are left as the comparisons of the first n outputs leave them.
 abbrev pub LeftAfter : ℕ → Both Slices Slices → Type 0

@@ -41,12 +41,12 @@ enum-known-loaded c = search needs
 write-refused-requires : tie.Need-write-refused-requires
 write-refused-requires c κs = search needs
 
-enum-told : tie.Need-enum-told
-enum-told c = search needs
+enum-known-loaded-2 : tie.Need-enum-known-loaded-2
+enum-known-loaded-2 c = search needs
 
 report-table-requires : tie.Need-report-table-requires
 report-table-requires c κs =
-    let matched = c .before .before .before .before .before .before .before .before .before in
+    let matched = c .before .before .before .before .before .before .before .before .before .before in
     let loaded = matched .before .before .before .before .before .before .before .before .before .before .before .before in
     let test = loaded .before .before .before .before .before .before in
     let load = loaded .load in
@@ -54,7 +54,7 @@ report-table-requires c κs =
     let l : Lent = lent (a .out .now) (holding (a .table .now) (a .pairs .now) (a .look .now) (a .diagrams .now) (a .stages .now) (a .rows .now) (a .marks .now) (a .setting .now)) in
     let long : short? l ≡ false = sym (test .before .is-short .ensures) ∙ test .if1 .left in
     let bounds = long-enough (length (a .out .now)) (length (a .rows .now)) (length (a .marks .now)) (length (a .setting .now)) long in
-    (table-ready (a .left .now) (a .right .now) (loadRoom l) (answerOf (load .result)) _ (load .ensures .0) (ap answerOf (matched .enum-told .given .1)) (load .last .1 .1 .0) (a .table .now) (load .ensures .1 .0) (bounds .setting), bounds .out)
+    (table-ready (a .left .now) (a .right .now) (loadRoom l) (answerOf (load .result)) _ _ (load .ensures .0) (ap answerOf (matched .loaded2 .given .1)) (load .last .1 .1 .0) (a .table .now) (load .ensures .1 .0) (bounds .setting), bounds .out)
 
 same-length : tie.Need-same-length
 same-length c = c .before .out .given
@@ -101,27 +101,27 @@ same-length-7 c = c .before .before .before .before .before .before .before .bef
 same-length-8 : tie.Need-same-length-8
 same-length-8 c =
     let table = c .before .before .before .before .before .before .before .before .before .before .before .before .before .before .before in
-    table .table2 .given ∙ table .before .before .before .before .before .before .before .before .before .before .before .before .before .before .before .before .before .before .before .before .before .before .before .before .table .given
+    table .table2 .given ∙ table .before .before .before .before .before .before .before .before .before .before .before .before .before .before .before .before .before .before .before .before .before .before .before .before .before .table .given
 
 same-length-9 : tie.Need-same-length-9
 same-length-9 c =
     let pairs = c .before .before .before .before .before .before .before .before .before .before .before .before .before in
-    pairs .pairs2 .given ∙ pairs .before .before .before .before .before .before .before .before .before .before .before .before .before .before .before .before .before .before .before .before .before .before .before .before .pairs .given
+    pairs .pairs2 .given ∙ pairs .before .before .before .before .before .before .before .before .before .before .before .before .before .before .before .before .before .before .before .before .before .before .before .before .before .pairs .given
 
 same-length-10 : tie.Need-same-length-10
 same-length-10 c =
     let look = c .before .before .before .before .before .before .before .before .before .before .before in
-    look .look2 .given ∙ look .before .before .before .before .before .before .before .before .before .before .before .before .before .before .before .before .before .before .before .before .before .before .before .before .look .given
+    look .look2 .given ∙ look .before .before .before .before .before .before .before .before .before .before .before .before .before .before .before .before .before .before .before .before .before .before .before .before .before .look .given
 
 same-length-11 : tie.Need-same-length-11
 same-length-11 c =
     let diagrams = c .before .before .before .before .before .before .before .before .before in
-    diagrams .diagrams2 .given ∙ diagrams .before .before .before .before .before .before .before .before .before .before .before .before .before .before .before .before .before .before .before .before .before .before .before .before .diagrams .given
+    diagrams .diagrams2 .given ∙ diagrams .before .before .before .before .before .before .before .before .before .before .before .before .before .before .before .before .before .before .before .before .before .before .before .before .before .diagrams .given
 
 same-length-12 : tie.Need-same-length-12
 same-length-12 c =
     let stages = c .before .before .before .before .before .before .before in
-    stages .stages2 .given ∙ stages .before .before .before .before .before .before .before .before .before .before .before .before .before .before .before .before .before .before .before .before .before .before .before .before .stages .given
+    stages .stages2 .given ∙ stages .before .before .before .before .before .before .before .before .before .before .before .before .before .before .before .before .before .before .before .before .before .before .before .before .before .stages .given
 
 same-length-13 : tie.Need-same-length-13
 same-length-13 c = c .before .before .before .before .before .rows .given
@@ -135,7 +135,7 @@ same-length-15 c = c .before .setting .given
 returns-3 : tie.Need-returns-3
 returns-3 c =
     let tabled = c .before .before .before .before .before .before .before .before .before .before .before .before .before .before .before .before .before .before in
-    let matched = tabled .before .before .before .before .before .before .before .before .before .before in
+    let matched = tabled .before .before .before .before .before .before .before .before .before .before .before in
     let stages = matched .before .before .before in
     let diagrams = stages .before .before in
     let look = diagrams .before .before in
@@ -144,18 +144,18 @@ returns-3 c =
     let test = loaded .before .before .before .before .before .before in
     let load = loaded .load in
     let table = tabled .report-table in
-    let told = ap answerOf (matched .enum-told .given .1) in
+    let told = ap answerOf (matched .loaded2 .given .1) in
     let a = test .before .before .before .before .before .before .before .before .before .before .before .before .before .args in
     let l : Lent = lent (a .out .now) (holding (a .table .now) (a .pairs .now) (a .look .now) (a .diagrams .now) (a .stages .now) (a .rows .now) (a .marks .now) (a .setting .now)) in
     let long : short? l ≡ false = sym (test .before .is-short .ensures) ∙ test .if1 .left in
     let bounds = long-enough (length (a .out .now)) (length (a .rows .now)) (length (a .marks .now)) (length (a .setting .now)) long in (
       record {
         result =
-            accepted-report (a .left .now) (a .right .now) l long (answerOf (load .result)) (load .ensures .0) (load .last .1 .1 .0) (load .ensures .1 .0) _ told _ _ _ (table .result)
+            accepted-report (a .left .now) (a .right .now) l long (answerOf (load .result)) (load .ensures .0) (load .last .1 .1 .0) (load .ensures .1 .0) _ _ told _ _ _ (table .result)
             (ap (λ (r : CompareRoom). record { table = load .last .1 .1 .0; output = 0; limits = programLimits; room = r; marks = a .marks .now; setting = a .setting .now })
             (same-room (pairs .pairs .given) (look .look .given) (diagrams .diagrams .given) (stages .stages .given) refl))
             (table .ensures .0 .stored) (table .ensures .1);
-        kept = λ h. clash (works-accepted (a .left .now) (a .right .now) l long _ (sym (load .ensures .0) ∙ told)) h;
+        kept = λ h. clash (works-accepted (a .left .now) (a .right .now) l long _ _ (sym (load .ensures .0) ∙ told)) h;
       },
       front-stored (bounds .out) (c .before .before .before .before .before .before .before .before .before .before .before .before .before .before .before .before .before .out2 .given) (table .ensures .0),
     )
@@ -169,7 +169,7 @@ report-pair-spec =
     load-requires
     enum-known-loaded
     write-refused-requires
-    enum-told
+    enum-known-loaded-2
     report-table-requires
     same-length
     same-length-2
