@@ -12,13 +12,14 @@ use Rattle.demands.specs.Complete.{Complete, Decided, Suffice, is-differ
 use Rattle.load_model.specs.Load.{tableOf}
 use Rattle.load_model.specs.Loadable.{Loadable}
 use Rattle.netlist_model.specs.Netlist.{Netlist}
+use Rattle.netlist_model.specs.Pairing.{paired}
 use mathlib.Core.List.{List}
 use mathlib.Core.Path.{_≡_}
 
-module _ {d e : Netlist} (h : Loadable d e) (old : List ℕ) (g : Given) (s : Since (tableOf d e old) (g .table)) (r : refusalOf g ≡ 0)
+module _ {d e : Netlist} (h : Loadable d e) (old : List ℕ) (g : Given) (s : Since (tableOf d (paired d e) old) (g .table)) (r : refusalOf g ≡ 0)
     (enough : Suffice d e (g .limits)) where
   -- The limits rule out each cause.
-  reply-decides : (x : Said) → ReplySays (tableOf d e old) g (compared g) x → ReplyKept d e (tableOf d e old) g (compared g) x → Decided d e (g .output) x
+  reply-decides : (x : Said) → ReplySays (tableOf d (paired d e) old) g (compared g) x → ReplyKept d e (tableOf d (paired d e) old) g (compared g) x → Decided d e (g .output) x
   reply-decides (Said.refused n) says k = absurd says
   reply-decides (Said.equal rows steps added) says k = is-equal (k .1)
   reply-decides (Said.different rows steps added) says k = is-different (λ agree. k .1 .differ (agree (k .1 .setting) (k .1 .digits)))
@@ -32,7 +33,7 @@ module _ {d e : Netlist} (h : Loadable d e) (old : List ℕ) (g : Given) (s : Si
 
 -- Every comparison of the list that is not refused, with limits that suffice, decides.
 pub complete : Complete
-complete left right room tally d e old last calls a l r ran =
-    let h = loaded-files left right room tally d e a l r in
+complete left right room edition tally d e old last calls a l r ran =
+    let h = loaded-files left right room edition tally d e a l r in
     each-call h old (λ c. refusalOf (c .given) ≡ 0 → Suffice d e (c .given .limits) → Decided d e (c .given .output) (c .left .reply))
     (λ c m s q enough. rw m (decides h old (c .given) s q enough)) (since-first h old) ran

@@ -13,12 +13,15 @@ use Rattle.demands.specs.Demand3.{Call, Each, Holds, Ran}
 use Rattle.demands.specs.Example.{Example, after, before, firstCall, leastLimits, oneGate, otherFile, secondCall, sizeOne, thirdCall}
 use Rattle.load_model.specs.Build.{askAnd, askGate, askGates, buildFile, buildPair, emptyBuild, foldedOrNot, foundOrMade, literalsFrom}
 use Rattle.load_model.specs.Cards.{andFile, room}
-use Rattle.load_model.specs.Load.{accepted, countsDiffer?, loadResult, readResult, tableOf, tableWords, tallyOf}
+use Rattle.load_model.specs.Load.{accepted, countsDiffer?, loadResult, readResult, readSecond, tableOf, tableWords, tallyOf}
 use Rattle.load_model.specs.Load.{shortSlice? as shortLoad?}
-use Rattle.netlist_model.specs.Check.{below?, checkFile, checkFrom, due?, dueAfter, finish, formed?, gatesIn, header?, known?, limited?, more?, outputsIn, read, readBy, readNetlist}
+use Rattle.netlist_model.specs.Check.{below?, checkFile, checkFrom, due?, dueAfter, finish, formed?, gatesIn, header?, known?, limited?, more?, namesIn, outputsIn, read, readBy, readNetlist, twice?}
 use Rattle.netlist_model.specs.Meaning.{andCount, andsFrom, fileAnds, gateAnds, operationFunction}
-use Rattle.netlist_model.specs.Records.{fieldsRecord, fileRecords, operationOf, recordOf, recordsOf, unended}
+use Rattle.netlist_model.specs.Names.{firstLacked, nameCount, placeOf}
+use Rattle.netlist_model.specs.Pairing.{inputFor, paired, referenceFor}
+use Rattle.netlist_model.specs.Records.{fieldsRecord, fileLines, lineOf, partLines, operationOf, recordOf, unended}
 use Rattle.netlist_model.specs.declared.Operation.the-variants.{And, Or}
+use Rattle.netlist_model.specs.declared.Role.the-variants.{First, Second}
 use Rattle.product_model.specs.Run.{_andThen_, addPart, addRow, countStep, plain, run}
 use Rattle.sweep_model.specs.Claims.{andFunction, andSteps, sum}
 use Rattle.sweep_model.specs.Normalise.{foldedRow, foundRow, normalise, normaliseFrom, normaliseRow, resolve, takeAt, takesFrom, wake, wakeAt}
@@ -42,18 +45,23 @@ use mathlib.Core.Path.{_≡_, refl}
 use native.Mathlib.Omega.{arith}
 
 -- The files, read.
-reads-left : readNetlist andFile ≡ read (oneGate And)
-unfolding dueAfter below? checkFile checkFrom due? finish firstRefusal formed? gatesIn header? known? limited? more? outputsIn readBy readNetlist digitsFrom numeralOf fieldsRecord fileRecords operationOf recordOf recordsOf unended
+reads-left : readNetlist First andFile ≡ read (oneGate And)
+unfolding dueAfter below? checkFile checkFrom due? finish firstRefusal formed? gatesIn header? known? limited? more? nameCount namesIn outputsIn readBy readNetlist twice? digitsFrom numeralOf fieldsRecord fileLines lineOf partLines operationOf recordOf unended
 reads-left = refl
 
-reads-right : readNetlist otherFile ≡ read (oneGate Or)
-unfolding dueAfter below? checkFile checkFrom due? finish firstRefusal formed? gatesIn header? known? limited? more? outputsIn readBy readNetlist digitsFrom numeralOf fieldsRecord fileRecords operationOf recordOf recordsOf unended
+reads-right : readNetlist (Second 1) otherFile ≡ read (oneGate Or)
+unfolding dueAfter below? checkFile checkFrom due? finish firstRefusal formed? gatesIn header? known? limited? more? nameCount namesIn outputsIn readBy readNetlist twice? digitsFrom numeralOf fieldsRecord fileLines lineOf partLines operationOf recordOf unended
 reads-right = refl
 
+-- The second file's inputs are in the first one's order.
+second : paired (oneGate And) (oneGate Or) ≡ oneGate Or
+unfolding inputFor paired placeOf referenceFor
+second = refl
+
 -- The load is accepted.
-accepts : loadResult andFile otherFile room ≡ accepted (record { asked = 2; folded = 0; found = 0; made = 2 })
-unfolding foldOf firstVertex ownWords askAnd askGate askGates buildFile buildPair emptyBuild foldedOrNot foundOrMade literalsFrom countsDiffer? loadResult readResult shortLoad? tallyOf andCount firstRefusal
-accepts = rw (reads-left, reads-right) refl
+accepts : loadResult andFile otherFile room ≡ accepted 1 (record { asked = 2; folded = 0; found = 0; made = 2 })
+unfolding foldOf firstVertex ownWords askAnd askGate askGates buildFile buildPair emptyBuild foldedOrNot foundOrMade literalsFrom countsDiffer? firstLacked loadResult readResult readSecond shortLoad? tallyOf andCount firstRefusal
+accepts = rw reads-left (rw (reads-right, second) refl)
 
 -- The table after it.
 abbrev words : List ℕ
@@ -61,7 +69,7 @@ words = 2 ∷ 2 ∷ 1 ∷ 2 ∷ 4 ∷ 3 ∷ 5 ∷ 6 ∷ 9 ∷ drop 9 before
 
 table : after ≡ words
 unfolding foldOf firstVertex ownWords askAnd askGate askGates buildFile buildPair emptyBuild foldedOrNot foundOrMade literalsFrom tableOf tableWords
-table = refl
+table = rw second refl
 
 -- The calls on it: none changes it.
 record Computed : Type 0 where
@@ -87,7 +95,7 @@ record Summed : Type 0 where
   steps-all : sum (map andSteps ((a, b) ∷ (invert a, invert b) ∷ [])) ≡ 6
 
 summed : Summed
-unfolding gatesAnds fileAnds andsFrom gateAnds operationFunction disj firstFunctions inputsFrom among distinct filter alike? allParts cofactors depends? parts size together calls steps sum terminal? conj constant? constantly input invert same?
+unfolding gatesAnds inputFor paired placeOf referenceFor fileAnds andsFrom gateAnds operationFunction disj firstFunctions inputsFrom among distinct filter alike? allParts cofactors depends? parts size together calls steps sum terminal? conj constant? constantly input invert same?
 summed = record { ands = refl; first-size = refl; second-size = refl; parts-all = refl; steps-all = refl }
 
 -- The least limits suffice for them.
@@ -123,7 +131,7 @@ example =
 -- So demand 3 holds of it.
 pub example-holds : Holds (oneGate And) (oneGate Or) after (firstCall ∷ secondCall ∷ thirdCall ∷ []) (thirdCall .left .table)
 example-holds =
-    demand3 andFile otherFile room (record { asked = 2; folded = 0; found = 0; made = 2 }) (oneGate And) (oneGate Or) before (thirdCall .left .table)
+    demand3 andFile otherFile room 1 (record { asked = 2; folded = 0; found = 0; made = 2 }) (oneGate And) (oneGate Or) before (thirdCall .left .table)
     (firstCall ∷ secondCall ∷ thirdCall ∷ []) (example .loaded) (example .left) (example .right) (example .ran)
 
 -- The first call of a list keeps what each does.
@@ -134,6 +142,6 @@ first-of (Each.next p r) = p
 pub example-decides : Decided (oneGate And) (oneGate Or) 0 (firstCall .left .reply)
 example-decides =
     first-of
-    (complete andFile otherFile room (record { asked = 2; folded = 0; found = 0; made = 2 }) (oneGate And) (oneGate Or) before (thirdCall .left .table)
+    (complete andFile otherFile room 1 (record { asked = 2; folded = 0; found = 0; made = 2 }) (oneGate And) (oneGate Or) before (thirdCall .left .table)
     (firstCall ∷ secondCall ∷ thirdCall ∷ []) (example .loaded) (example .left) (example .right) (example .ran))
     (example .first-accepted) (example .suffice)

@@ -7,13 +7,16 @@ use Rattle.demands.specs.Claims.{TooLarge, TooManyParts, TooManySteps, g
 use Rattle.load_model.proofs.AndLaws.{made-function, made-parts, rows-from, rows-total}
 use Rattle.load_model.proofs.FromLaws.{place-within, placeIn}
 use Rattle.load_model.proofs.PairLaws.{length-left}
+use Rattle.load_model.proofs.PairedLaws.{loadable-matched, loadable-paired}
 use Rattle.load_model.proofs.ValueLaws.{left-value, right-value}
 use Rattle.load_model.specs.code.From.{total}
 use Rattle.load_model.specs.code.Functions.{rowOperands}
 use Rattle.load_model.specs.Load.{tableOf, tableWords}
 use Rattle.load_model.specs.Loadable.{Loadable}
 use Rattle.load_model.specs.code.Valued.{operandsOf}
+use Rattle.netlist_model.proofs.PairingLaws.{paired-outputs, paired-value}
 use Rattle.netlist_model.specs.Netlist.{Netlist}
+use Rattle.netlist_model.specs.Pairing.{paired}
 use Rattle.sweep_model.proofs.Marked.{ands-at, ands-length, marked-part}
 use Rattle.sweep_model.specs.Claims.{And, andFunction, andSteps, andsFrom, andsOf, marked, sum}
 use Rattle.sweep_model.specs.Fit.{vertexCount}
@@ -81,38 +84,44 @@ rows-ands table output limits =
 
 module _ (d e : Netlist) (h : Loadable d e) (old : List ℕ) where
   abbrev loaded : List ℕ
-  loaded = tableOf d e old
+  loaded = tableOf d (paired d e) old
+
+  -- The second file has as many outputs in the first one's order.
+  same-outputs : length (d .outputs) ≡ length (paired d e .outputs)
+  same-outputs = h .outputs ∙ sym (paired-outputs d e)
 
   -- The table has the files' inputs,
-  pub table-inputs : inputsOf (tableOf d e old) ≡ d .inputs
+  pub table-inputs : inputsOf (tableOf d (paired d e) old) ≡ d .inputs
   unfolding tableOf tableWords
   table-inputs = refl
 
   -- and as many outputs a side.
-  pub table-outputs : outputsOf (tableOf d e old) ≡ length (d .outputs)
+  pub table-outputs : outputsOf (tableOf d (paired d e) old) ≡ length (d .outputs)
   unfolding tableOf tableWords
-  table-outputs = length-left d e
+  table-outputs = length-left d (paired d e)
 
-  -- Every output has its file's value.
+  -- Every output has its file's value, the second file's by name.
   pub table-value : (side k : ℕ) (s : Setting) → k < length (d .outputs) → length s ≡ d .inputs
-      → outputValue (graphOf (tableOf d e old)) side k s ≡ sideValue d e side k s
+      → outputValue (graphOf (tableOf d (paired d e) old)) side k s ≡ sideValue d e side k s
   unfolding outputValue outputs sideValue
   table-value side k s l m =
       elim (ℕ-discrete side 1) [
-        | yes i ↦ rw (eq-eqb side 1 i) (left-value d e (h .inputs) (h .outputs) old k s l m)
-        | no i ↦ rw (ne-eqb side 1 i) (right-value d e (h .inputs) (h .outputs) old k s (omega (arith, h .outputs)) (omega (arith, h .inputs)))
+        | yes i ↦ rw (eq-eqb side 1 i) (left-value d (paired d e) (loadable-paired h .inputs) same-outputs old k s l m)
+        | no i ↦ rw (ne-eqb side 1 i)
+            (right-value d (paired d e) (loadable-paired h .inputs) same-outputs old k s (omega (arith, same-outputs)) (omega (arith, loadable-paired h .inputs))
+            ∙ paired-value (loadable-matched h) s m k)
       ]
 
   abbrev function : ℕ → Truth
   function v = getD (functionsOf (graphOf loaded)) v (constantly (inputsOf loaded) false)
 
   -- A made vertex larger than a limit is such an AND of the gates.
-  pub too-large : (limit v : ℕ) → 1 + inputsOf (tableOf d e old) ≤ v → v < length (functionsOf (graphOf (tableOf d e old)))
-      → limit < size (getD (functionsOf (graphOf (tableOf d e old))) v (constantly (inputsOf (tableOf d e old)) false))
+  pub too-large : (limit v : ℕ) → 1 + inputsOf (tableOf d (paired d e) old) ≤ v → v < length (functionsOf (graphOf (tableOf d (paired d e) old)))
+      → limit < size (getD (functionsOf (graphOf (tableOf d (paired d e) old))) v (constantly (inputsOf (tableOf d (paired d e) old)) false))
       → TooLarge d e limit
   unfolding gatesAnds graphOf rowOperands
   too-large limit v made there m =
-      let rows = rows-from d e (h .inputs) (h .outputs) old in
+      let rows = rows-from d (paired d e) (loadable-paired h .inputs) same-outputs old in
       let i : ℕ = v - (1 + inputsOf loaded) in
       let z : v ≡ 1 + inputsOf loaded + i = omega arith in
       let l : i < length (rowsOf loaded) = omega (arith, length-functions (graphOf loaded)) in
@@ -120,7 +129,7 @@ module _ (d e : Netlist) (h : Loadable d e) (old : List ℕ) where
         place = placeIn rows i;
         there = place-within rows i (simp length-map l);
         large =
-            rw (← made-function d e (h .inputs) (h .outputs) old i l (constantly 0 false, constantly 0 false))
+            rw (← made-function d (paired d e) (loadable-paired h .inputs) same-outputs old i l (constantly 0 false, constantly 0 false))
             (subst (λ (u : ℕ). limit < size (function u)) z m);
       }
 
@@ -151,12 +160,12 @@ module _ (d e : Netlist) (h : Loadable d e) (old : List ℕ) where
 
       made : (i : ℕ) → 1 + inputsOf loaded + i ≡ v → among alike? t (allParts ands) ≡ true
       made i z =
-          made-parts d e (h .inputs) (h .outputs) old i (omega (arith, length-functions (graphOf loaded))) t
+          made-parts d (paired d e) (loadable-paired h .inputs) same-outputs old i (omega (arith, length-functions (graphOf loaded))) t
           (subst (λ (u : ℕ). among alike? t (parts (function u)) ≡ true) (sym z) k)
 
   -- Marked functions with more parts than a limit: all inputs and the gates' ANDs together have more.
   pub too-many-parts : (limit : ℕ) (test : ℕ → Bool) (marks : List ℕ)
-      → limit < together (marked test marks (functionsOf (graphOf (tableOf d e old)))) → TooManyParts d e limit
+      → limit < together (marked test marks (functionsOf (graphOf (tableOf d (paired d e) old)))) → TooManyParts d e limit
   unfolding together
   too-many-parts limit test marks l =
       omega (
@@ -169,7 +178,7 @@ module _ (d e : Netlist) (h : Loadable d e) (old : List ℕ) where
 
   -- Marked ANDs that take more steps than a limit: all gates' ANDs take more.
   pub too-many-steps : (limit output : ℕ) (limits : Limits) (test : ℕ → Bool) (marks : List ℕ)
-      → limit < sum (map andSteps (marked test marks (andsOf (problemOf (tableOf d e old) output limits) (graphWords (tableOf d e old))))) → TooManySteps d e limit
+      → limit < sum (map andSteps (marked test marks (andsOf (problemOf (tableOf d (paired d e) old) output limits) (graphWords (tableOf d (paired d e) old))))) → TooManySteps d e limit
   unfolding gatesAnds
   too-many-steps limit output limits test marks l =
       omega (
@@ -177,6 +186,6 @@ module _ (d e : Netlist) (h : Loadable d e) (old : List ℕ) where
         sum-fewer test andSteps marks (andsOf (problemOf loaded output limits) (graphWords loaded)),
         ap (λ (xs : List And). sum (map andSteps xs)) (rows-ands loaded output limits),
         sum-total (rowOperands (graphOf loaded)),
-        rows-total d e (h .inputs) (h .outputs) old steps steps-symmetric,
+        rows-total d (paired d e) (loadable-paired h .inputs) same-outputs old steps steps-symmetric,
         sum-total (gatesAnds d e),
       )

@@ -11,12 +11,12 @@ use Rattle.demands.specs.Demand3.{Call, Each, Ran}
 use Rattle.demands.specs.Example.{callOf}
 use Rattle.demands.specs.Printed.{Numbered, PrintedRefused, PrintedTrue, TrueLine, callLine, callLines, says-different, says-equal, says-undecided}
 use Rattle.load_model.proofs.LoadLaws.{load-only}
+use Rattle.load_model.proofs.PairedLaws.{loadable-paired}
 use Rattle.load_model.proofs.TableLaws.{table-accepted}
-use Rattle.load_model.specs.Load.{accepted, refused, tableAfter, tableOf}
+use Rattle.load_model.specs.Load.{accepted, loadResult, readSecond, refused, tableAfter, tableLoaded, tableOf}
 use Rattle.load_model.specs.Loadable.{Loadable}
-use Rattle.netlist_model.specs.Check.{readNetlist}
-use Rattle.netlist_model.specs.Limits.{edition}
 use Rattle.netlist_model.specs.Netlist.{Netlist}
+use Rattle.netlist_model.specs.Pairing.{paired}
 use Rattle.reply_line.specs.Line.{lineFor}
 use Rattle.report_format.specs.Report.{headLine, refusedLine, replyLine}
 use Rattle.report_format.specs.declared.Vertex.the-variants.{None}
@@ -44,10 +44,10 @@ length-calls zero g = refl
 length-calls (suc n) g = ap suc (length-calls n (next g))
 
 -- Their lines are the report's.
-lines-calls : (n : ℕ) (g : Given) → linesOf (comparisons n g) ≡ callLines (callsOf n g)
+lines-calls : (edition n : ℕ) (g : Given) → linesOf edition (comparisons n g) ≡ callLines edition (callsOf n g)
 unfolding linesOf comparisons callLines comparisonLine
-lines-calls zero g = refl
-lines-calls (suc n) g = ap (_++_ (callLine (callOf g))) (lines-calls n (next g))
+lines-calls edition zero g = refl
+lines-calls edition (suc n) g = ap (_++_ (callLine edition (callOf g))) (lines-calls edition n (next g))
 
 -- Each is made on the table as the one before left it.
 ran-calls : (n : ℕ) (g : Given) → Ran (g .table) (callsOf n g) (after n g .table)
@@ -64,12 +64,12 @@ numbered-calls (suc n) g k e l = Numbered.next {c = callOf g} e l (numbered-call
 
 module _ {d e : Netlist} (h : Loadable d e) (old : List ℕ) where
   -- The line of a comparison that is not refused is true of the files.
-  line-true : (g : Given) → Since (tableOf d e old) (g .table) → refusalOf g ≡ 0 → TrueLine d e (g .output) (callLine (callOf g))
+  line-true : (g : Given) → Since (tableOf d (paired d e) old) (g .table) → refusalOf g ≡ 0 → TrueLine d e (g .output) (callLine (d .edition) (callOf g))
   unfolding settingBytes
   line-true g s r = go (compared g .reply) (reply-kept h old g s)
     where
-      go : (x : Said) → ReplyKept d e (tableOf d e old) g (compared g) x
-          → TrueLine d e (g .output) (lineFor (g .output) x (take (inputsOf (g .table)) (compared g .setting)))
+      go : (x : Said) → ReplyKept d e (tableOf d (paired d e) old) g (compared g) x
+          → TrueLine d e (g .output) (lineFor (d .edition) (g .output) x (take (inputsOf (g .table)) (compared g .setting)))
       go (Said.refused n) k = absurd (k .1 (sym (k .0) ∙ r))
       go (Said.equal rows steps added) k = says-equal rows steps (k .1)
       go (Said.different rows steps added) k =
@@ -78,14 +78,14 @@ module _ {d e : Netlist} (h : Loadable d e) (old : List ℕ) where
           length-map (x .setting) _ ∙ x .digits ∙ sym (table-inputs d e h old) ∙ sym (s .inputs) in
           let front : settingBytes (x .setting) ≡ take (inputsOf (g .table)) (compared g .setting) =
           sym (rw (x .written) (take-at (settingBytes (x .setting)) _ (inputsOf (g .table)) digits)) in
-          subst (λ (bytes : List ℕ). TrueLine d e (g .output) (replyLine edition (g .output) word.Different bytes None rows steps)) front (says-different rows steps x)
+          subst (λ (bytes : List ℕ). TrueLine d e (g .output) (replyLine (d .edition) (g .output) word.Different bytes None rows steps)) front (says-different rows steps x)
       go (Said.size rows steps added) k = says-undecided Size rows steps added
       go (Said.rows v rows steps added) k = says-undecided (Rows v) rows steps added
       go (Said.steps v rows steps added) k = says-undecided (Steps v) rows steps added
 
   -- So is that of each of the program's.
-  lines-true : (n : ℕ) (g : Given) → Roomy g → g .output + n ≤ outputsOf (g .table) → Since (tableOf d e old) (g .table)
-      → Each (λ c. TrueLine d e (c .given .output) (callLine c)) (callsOf n g)
+  lines-true : (n : ℕ) (g : Given) → Roomy g → g .output + n ≤ outputsOf (g .table) → Since (tableOf d (paired d e) old) (g .table)
+      → Each (λ c. TrueLine d e (c .given .output) (callLine (d .edition) c)) (callsOf n g)
   unfolding next
   lines-true zero g r l s = Each.none
   lines-true (suc n) g r l s =
@@ -95,40 +95,47 @@ module _ {d e : Netlist} (h : Loadable d e) (old : List ℕ) where
 
 -- The report is true of the files.
 pub printed-true : PrintedTrue
-unfolding reported tableAfter
-printed-true left right lent tally d e long a l r =
-    rw (report-loaded left right lent long (accepted tally) a (tableOf d e (lent .table)) (rw (l, r) refl))
+unfolding reported readSecond tableAfter
+printed-true left right lent edition tally d e long a l r =
+    rw (report-loaded left right lent long (accepted (d .edition) tally) dated (tableOf d (paired d e) (lent .table)) (rw l (rw r refl)))
     (record {
       calls = calls;
-      bytes = take-append-seam bytes _ ∙ ap (_++_ headLine) (lines-calls n first);
+      bytes = take-append-seam bytes _ ∙ ap (_++_ headLine) (lines-calls (d .edition) n first);
       count = length-calls n first ∙ table-outputs d e h (lent .table);
       numbered = numbered-calls n first 0 refl refl;
       ran = ran-calls n first;
-      holds = demand3 left right (loadRoom lent) tally d e (lent .table) (after n first .table) calls a l r (ran-calls n first);
+      holds = demand3 left right (loadRoom lent) edition tally d e (lent .table) (after n first .table) calls a l r (ran-calls n first);
       true-lines = lines-true h (lent .table) n first roomy (omega arith) (since-first h (lent .table));
     })
   where
     h : Loadable d e
-    h = loaded-files left right (loadRoom lent) tally d e a l r
+    h = loaded-files left right (loadRoom lent) edition tally d e a l r
+
+    -- The edition of the load is that of the files.
+    dated : loadResult left right (loadRoom lent) ≡ accepted (d .edition) tally
+    dated =
+        let h = load-only left right (loadRoom lent) edition tally a in
+        let f : h .first ≡ d = cc (h .first-read) in
+        a ∙ ap (λ (x : ℕ). accepted x tally) (h .dated ∙ ap (λ (x : Netlist). x .edition) f)
 
     first : Given
-    first = firstOf lent (tableOf d e (lent .table))
+    first = firstOf lent (tableOf d (paired d e) (lent .table))
 
     n : ℕ
-    n = outputsOf (tableOf d e (lent .table))
+    n = outputsOf (tableOf d (paired d e) (lent .table))
 
     calls : List Call
     calls = callsOf n first
 
     bytes : List ℕ
-    bytes = headLine ++ linesOf (comparisons n first)
+    bytes = headLine ++ linesOf (d .edition) (comparisons n first)
 
     roomy : Roomy first
     roomy =
-        let enough = load-only left right (loadRoom lent) tally a .enough in
+        let enough = load-only left right (loadRoom lent) edition tally a .enough in
         let lengths = long-enough (length (lent .out)) (lent .room .rows) (length (lent .marks)) (length (lent .setting)) long in
         record {
-          table = table-accepted d e h (lent .table);
+          table = table-accepted d (paired d e) (loadable-paired h) (lent .table);
           limits = refl;
           pairs = enough .pairs;
           look = enough .look;
@@ -143,5 +150,5 @@ printed-true left right lent tally d e long a l r =
 pub printed-refused : PrintedRefused
 unfolding reported
 printed-refused left right lent number file line long a =
-    rw (report-loaded left right lent long (refused number file line) a (tableAfter (refused number file line) (readNetlist left) (readNetlist right) (lent .table)) refl)
+    rw (report-loaded left right lent long (refused number file line) a (tableLoaded (refused number file line) left right (lent .table)) refl)
     (take-append-seam (refusedLine number file line) _)

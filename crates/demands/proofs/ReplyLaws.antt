@@ -11,6 +11,7 @@ use Rattle.demands.specs.Claims.{Agree, ReplyKept, Separated, sideValue}
 use Rattle.load_model.specs.Load.{tableOf}
 use Rattle.load_model.specs.Loadable.{Loadable}
 use Rattle.netlist_model.specs.Netlist.{Netlist}
+use Rattle.netlist_model.specs.Pairing.{paired}
 use Rattle.sweep_model.specs.Claims.{is, isEither}
 use Rattle.table.specs.Table.{graphOf, outputValue}
 use Rattle.truth.specs.Truth.{Setting}
@@ -21,9 +22,9 @@ use mathlib.Core.Path.{_∙_, _≡_, ap, refl, sym}
 use native.Mathlib.Decide.{ℕ-discrete}
 use native.Mathlib.Omega.{arith}
 
-module _ {d e : Netlist} (h : Loadable d e) (old : List ℕ) (g : Given) (s : Since (tableOf d e old) (g .table)) where
+module _ {d e : Netlist} (h : Loadable d e) (old : List ℕ) (g : Given) (s : Since (tableOf d (paired d e) old) (g .table)) where
   abbrev loaded : List ℕ
-  loaded = tableOf d e old
+  loaded = tableOf d (paired d e) old
 
   -- A comparison that is not refused.
   module _ (r : refusalOf g ≡ 0) where
@@ -51,8 +52,8 @@ module _ {d e : Netlist} (h : Loadable d e) (old : List ℕ) (g : Given) (s : Si
         }
 
     -- What is said of a reply and its marks by the table as loaded, by the files.
-    said-kept : (x : Said) → MarksKept (problemBy (tableOf d e old) g) (compared g .marks) x → ReplySays (tableOf d e old) g (compared g) x
-        → ReplyKept d e (tableOf d e old) g (compared g) x
+    said-kept : (x : Said) → MarksKept (problemBy (tableOf d (paired d e) old) g) (compared g .marks) x → ReplySays (tableOf d (paired d e) old) g (compared g) x
+        → ReplyKept d e (tableOf d (paired d e) old) g (compared g) x
     unfolding problemOf
     said-kept (Said.refused n) m k = absurd k
     said-kept (Said.equal rows steps added) m k = (r, agree (k .0), k .1)
@@ -66,7 +67,7 @@ module _ {d e : Netlist} (h : Loadable d e) (old : List ℕ) (g : Given) (s : Si
         (r, too-many-steps d e h old (g .limits .steps) (g .output) (g .limits) (λ m. isEither 1 2 m || is 3 m) _ (k .0 .over), k .1, k .0 .full)
 
   -- Refused or not.
-  pub reply-kept : ReplyKept d e (tableOf d e old) g (compared g) (compared g .reply)
+  pub reply-kept : ReplyKept d e (tableOf d (paired d e) old) g (compared g) (compared g .reply)
   reply-kept =
       elim (ℕ-discrete (refusalOf g) 0) [
         | yes r ↦ said-kept r (compared g .reply) (marks-kept g r s) (reply-says g r s)

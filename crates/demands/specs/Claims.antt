@@ -5,6 +5,7 @@ use Rattle.compare_model.specs.Compare.{Given, Left, refusalOf, settingBytes}
 use Rattle.compare_model.specs.Said.{Said}
 use Rattle.netlist_model.specs.Meaning.{fileAnds, fileValue}
 use Rattle.netlist_model.specs.Netlist.{Netlist}
+use Rattle.netlist_model.specs.Pairing.{paired, settingByName}
 use Rattle.sweep_model.specs.Claims.{And, andFunction, andSteps, sum}
 use Rattle.table.specs.Table.{inputsFrom}
 use Rattle.truth.specs.Parts.{size, together}
@@ -17,25 +18,27 @@ use mathlib.Core.List.{List, _++_, map}
 use mathlib.Core.Logic.{_≢_}
 use mathlib.Core.Path.{_≡_}
 
--- "its file's value": output k of a side's file on a setting. "Inputs and outputs pair by place". (RULES 1.10, 1.11)
+-- "Settings follow the first file's order, and a file's value means its value after this pairing.": output k of a side's file on a
+-- setting. (RULES 1.10, 1.11)
 unfoldable pub sideValue : Netlist → Netlist → ℕ → ℕ → Setting → Bool
-sideValue d e side k s = cond (eqb side 1) (fileValue d k s) (fileValue e k s)
+sideValue d e side k s = cond (eqb side 1) (fileValue d k s) (fileValue e k (settingByName d e s))
 
--- "AND that the gates stand for": those of both files. (RULES 1.9, 12.3)
+-- "AND that the gates stand for": those of both files, the second with its inputs in the first file's order, on which parts and product steps
+-- depend. (RULES 1.9, 1.11, 12.3)
 unfoldable pub gatesAnds : Netlist → Netlist → List And
-gatesAnds d e = fileAnds d ++ fileAnds e
+gatesAnds d e = fileAnds d ++ fileAnds (paired d e)
 
 -- "Equal is said only where two outputs agree on every setting" (RULES 12.2)
 abbrev pub Agree : Netlist → Netlist → ℕ → Type 0
-Agree d e k = (s : Setting) → length s ≡ d .inputs → fileValue d k s ≡ fileValue e k s
+Agree d e k = (s : Setting) → length s ≡ d .inputs → sideValue d e 1 k s ≡ sideValue d e 2 k s
 
 -- "Different only with the first setting, in counting order, on which they disagree.", written to the front of the setting slice. (RULES 7.2, 12.2)
 pub record Separated (d e : Netlist) (k : ℕ) (before after : List ℕ) : Type 0 where
   pub setting : Setting
   pub digits : length setting ≡ d .inputs
   pub written : after ≡ settingBytes setting ++ drop (d .inputs) before
-  pub differ : fileValue d k setting ≢ fileValue e k setting
-  pub first : (s : Setting) → length s ≡ d .inputs → numberOf s < numberOf setting → fileValue d k s ≡ fileValue e k s
+  pub differ : sideValue d e 1 k setting ≢ sideValue d e 2 k setting
+  pub first : (s : Setting) → length s ≡ d .inputs → numberOf s < numberOf setting → sideValue d e 1 k s ≡ sideValue d e 2 k s
 
 -- "some AND that the gates stand for has more parts than the size limit" (RULES 12.3)
 pub record TooLarge (d e : Netlist) (limit : ℕ) : Type 0 where

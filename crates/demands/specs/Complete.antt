@@ -8,6 +8,8 @@ use Rattle.load_model.specs.Load.{LoadRoom, accepted, loadResult, tableOf}
 use Rattle.load_model.specs.declared.Tally.{Tally}
 use Rattle.netlist_model.specs.Check.{read, readNetlist}
 use Rattle.netlist_model.specs.Netlist.{Netlist}
+use Rattle.netlist_model.specs.Pairing.{paired}
+use Rattle.netlist_model.specs.declared.Role.the-variants.{First, Second}
 use Rattle.sweep_model.specs.State.{Limits}
 use mathlib.Core.List.{List}
 use mathlib.Core.Path.{_≡_}
@@ -25,7 +27,7 @@ pub data Decided (d e : Netlist) (k : ℕ) : Said → Type 0 where
 
 abbrev pub Complete : Type 0
 Complete =
-    (left right : List ℕ) (room : LoadRoom) (tally : Tally) (d e : Netlist) (old last : List ℕ) (calls : List Call)
-    → loadResult left right room ≡ accepted tally → readNetlist left ≡ read d → readNetlist right ≡ read e
-    → Ran (tableOf d e old) calls last
+    (left right : List ℕ) (room : LoadRoom) (edition : ℕ) (tally : Tally) (d e : Netlist) (old last : List ℕ) (calls : List Call)
+    → loadResult left right room ≡ accepted edition tally → readNetlist First left ≡ read d → readNetlist (Second (d .edition)) right ≡ read e
+    → Ran (tableOf d (paired d e) old) calls last
     → Each (λ c. refusalOf (c .given) ≡ 0 → Suffice d e (c .given .limits) → Decided d e (c .given .output) (c .left .reply)) calls

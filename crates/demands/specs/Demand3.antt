@@ -7,6 +7,8 @@ use Rattle.load_model.specs.Load.{LoadRoom, accepted, loadResult, tableOf}
 use Rattle.load_model.specs.declared.Tally.{Tally}
 use Rattle.netlist_model.specs.Check.{read, readNetlist}
 use Rattle.netlist_model.specs.Netlist.{Netlist}
+use Rattle.netlist_model.specs.Pairing.{paired}
+use Rattle.netlist_model.specs.declared.Role.the-variants.{First, Second}
 use Rattle.table.specs.Table.{graphOf, outputValue}
 use Rattle.truth.specs.Truth.{Setting}
 use lib.ListN.{length}
@@ -42,7 +44,7 @@ pub record Holds (d e : Netlist) (loaded : List ℕ) (calls : List Call) (last :
 
 abbrev pub Demand3 : Type 0
 Demand3 =
-    (left right : List ℕ) (room : LoadRoom) (tally : Tally) (d e : Netlist) (old last : List ℕ) (calls : List Call)
-    → loadResult left right room ≡ accepted tally → readNetlist left ≡ read d → readNetlist right ≡ read e
-    → Ran (tableOf d e old) calls last
-    → Holds d e (tableOf d e old) calls last
+    (left right : List ℕ) (room : LoadRoom) (edition : ℕ) (tally : Tally) (d e : Netlist) (old last : List ℕ) (calls : List Call)
+    → loadResult left right room ≡ accepted edition tally → readNetlist First left ≡ read d → readNetlist (Second (d .edition)) right ≡ read e
+    → Ran (tableOf d (paired d e) old) calls last
+    → Holds d e (tableOf d (paired d e) old) calls last

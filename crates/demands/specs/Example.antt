@@ -10,8 +10,10 @@ use Rattle.load_model.specs.Cards.{andFile, room, withOneGate}
 use Rattle.load_model.specs.Load.{accepted, loadResult, maxTable, tableOf}
 use Rattle.netlist_model.specs.Check.{read, readNetlist}
 use Rattle.netlist_model.specs.Netlist.{Netlist}
+use Rattle.netlist_model.specs.Pairing.{paired}
 use Rattle.netlist_model.specs.declared.Operation.the-variants.{And, Or}
 use Rattle.netlist_model.specs.declared.Operation.{Operation}
+use Rattle.netlist_model.specs.declared.Role.the-variants.{First, Second}
 use Rattle.sweep_model.specs.State.{Limits}
 use lib.ListN.{replicate}
 use mathlib.Core.List.{List, [], _∷_}
@@ -23,14 +25,14 @@ otherFile = withOneGate (71 ∷ 9 ∷ 111 ∷ 114 ∷ 9 ∷ 50 ∷ 9 ∷ 52 ∷ 
 
 -- The netlist of each: one gate of inputs 1 and 2, and its output.
 abbrev pub oneGate : Operation → Netlist
-oneGate op = record { inputs = 2; gates = record { op = op; p = 2; q = 4 } ∷ []; outputs = 6 ∷ [] }
+oneGate op = record { edition = 1; inputs = 2; names = []; gates = record { op = op; p = 2; q = 4 } ∷ []; outputs = 6 ∷ [] }
 
 -- The table before the load, and after it.
 abbrev pub before : List ℕ
 before = replicate maxTable 0
 
 abbrev pub after : List ℕ
-after = tableOf (oneGate And) (oneGate Or) before
+after = tableOf (oneGate And) (paired (oneGate And) (oneGate Or)) before
 
 -- A call, from what it is given.
 abbrev pub callOf : Given → Call
@@ -56,9 +58,9 @@ abbrev pub thirdCall : Call
 thirdCall = callOf (comparisonOf 0 sizeOne (secondCall .left .table))
 
 pub record Example : Type 0 where
-  pub loaded : loadResult andFile otherFile room ≡ accepted (record { asked = 2; folded = 0; found = 0; made = 2 })
-  pub left : readNetlist andFile ≡ read (oneGate And)
-  pub right : readNetlist otherFile ≡ read (oneGate Or)
+  pub loaded : loadResult andFile otherFile room ≡ accepted 1 (record { asked = 2; folded = 0; found = 0; made = 2 })
+  pub left : readNetlist First andFile ≡ read (oneGate And)
+  pub right : readNetlist (Second 1) otherFile ≡ read (oneGate Or)
   pub ran : Ran after (firstCall ∷ secondCall ∷ thirdCall ∷ []) (thirdCall .left .table)
   pub suffice : Suffice (oneGate And) (oneGate Or) leastLimits
   pub first-accepted : refusalOf (firstCall .given) ≡ 0

@@ -3,12 +3,13 @@ use Prim.Native.Nat.{ℕ}
 use Rattle.compare_model.specs.Compare.{refusalOf}
 use Rattle.demands.specs.Complete.{Decided, Suffice}
 use Rattle.demands.specs.Demand3.{Call, Each, Holds, Ran}
-use Rattle.load_model.specs.Load.{LoadRoom, answerOf, loadResult, tableAfter}
+use Rattle.load_model.specs.Load.{LoadRoom, answerOf, loadResult, tableLoaded}
 use Rattle.load_model.specs.declared.Loaded.the-variants.{Accepted}
 use Rattle.load_model.specs.declared.Loaded.{Loaded}
 use Rattle.load_model.specs.declared.Tally.{Tally}
 use Rattle.netlist_model.specs.Check.{read, readNetlist}
 use Rattle.netlist_model.specs.Netlist.{Netlist}
+use Rattle.netlist_model.specs.declared.Role.the-variants.{First, Second}
 use mathlib.Core.List.{List}
 use mathlib.Core.Path.{_≡_}
 
@@ -16,8 +17,8 @@ use mathlib.Core.Path.{_≡_}
 pub record Demanded (left right loaded : List ℕ) (calls : List Call) (last : List ℕ) : Type 0 where
   pub first : Netlist
   pub second : Netlist
-  pub first-read : readNetlist left ≡ read first
-  pub second-read : readNetlist right ≡ read second
+  pub first-read : readNetlist First left ≡ read first
+  pub second-read : readNetlist (Second (first .edition)) right ≡ read second
   pub holds : Holds first second loaded calls last
   pub decides : Each
       (λ c. refusalOf (c .given) ≡ 0 → Suffice first second (c .given .limits) → Decided first second (c .given .output) (c .left .reply)) calls
@@ -25,7 +26,7 @@ pub record Demanded (left right loaded : List ℕ) (calls : List Call) (last : L
 -- The premises are the contract of load, that its result was Accepted, and that each call of the list keeps the contract of compare.
 abbrev pub FromFiles : Type 0
 FromFiles =
-    (left right old loaded last : List ℕ) (room : LoadRoom) (result : Loaded) (tally : Tally) (calls : List Call)
-    → answerOf result ≡ loadResult left right room → loaded ≡ tableAfter (answerOf result) (readNetlist left) (readNetlist right) old
-    → result ≡ Accepted tally → Ran loaded calls last
+    (left right old loaded last : List ℕ) (room : LoadRoom) (result : Loaded) (edition : ℕ) (tally : Tally) (calls : List Call)
+    → answerOf result ≡ loadResult left right room → loaded ≡ tableLoaded (answerOf result) left right old
+    → result ≡ Accepted edition tally → Ran loaded calls last
     → Demanded left right loaded calls last
