@@ -113,7 +113,7 @@ fn load_card(
         outputs,
     );
     match loaded {
-        Loaded::Accepted(_) => true,
+        Loaded::Accepted { edition, tally } => true,
         Loaded::Refused { number, file, line } => say(false, b" load"),
     }
 }
@@ -169,7 +169,7 @@ fn limits_of(card: &[u8]) -> Limits {
 // Whether `line` is the line of a reply, without its setting.
 fn is_line(line: &[u8], output: u32, reply: Reply) -> bool {
     let mut came = [0u8; report_format::LINE_ROOM];
-    let end = reply_line::write_line(&mut came, output, reply, b"");
+    let end = reply_line::write_line(&mut came, netlist_model::BY_PLACE, output, reply, b"");
     text::same(line, &came[..end])
 }
 

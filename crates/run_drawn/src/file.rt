@@ -3,59 +3,128 @@ use crate::circuit;
 use crate::circuit::AND;
 use crate::circuit::OR;
 use crate::circuit::WORDS;
+use crate::order;
 
 pub const BYTES: usize = 4096;
 
-// Writes the file and gives back its length.
-pub fn write(circuit: &[u32; WORDS], file: &mut [u8; BYTES]) -> usize {
-    let at = write_header(circuit, file);
-    let at = write_gates(circuit, file, at);
-    write_outputs(circuit, file, at)
+// The editions: inputs without names, and with names.
+pub const BY_PLACE: u32 = 1;
+
+pub const BY_NAME: u32 = 2;
+
+// Writes the file of an edition, with the inputs in an order, and gives back its length.
+pub fn write(
+    circuit: &[u32; WORDS],
+    order: &[u32; order::WORDS],
+    edition: u32,
+    file: &mut [u8; BYTES],
+) -> usize {
+    let at = write_header(circuit, edition, file);
+    let at = write_names(order, name_count(circuit, edition), file, at);
+    let at = write_gates(circuit, order, file, at);
+    write_outputs(circuit, order, file, at)
 }
 
-fn write_header(circuit: &[u32; WORDS], file: &mut [u8; BYTES]) -> usize {
+// How many lines with names there are.
+fn name_count(circuit: &[u32; WORDS], edition: u32) -> u32 {
+    if edition == BY_NAME {
+        return circuit::inputs(circuit);
+    }
+    0
+}
+
+fn write_header(circuit: &[u32; WORDS], edition: u32, file: &mut [u8; BYTES]) -> usize {
     let at = put(file, 0, b'N');
-    let at = put_field(file, at, 1);
+    let at = put_field(file, at, edition);
     let at = put_field(file, at, circuit::inputs(circuit));
     let at = put_field(file, at, circuit::gates(circuit));
     let at = put_field(file, at, circuit::outputs(circuit));
     put(file, at, b'\n')
 }
 
-fn write_gates(circuit: &[u32; WORDS], file: &mut [u8; BYTES], from: usize) -> usize {
+fn write_names(
+    order: &[u32; order::WORDS],
+    names: u32,
+    file: &mut [u8; BYTES],
+    from: usize,
+) -> usize {
+    let mut at = from;
+    let mut place = 0;
+    while place < names {
+        place += 1;
+        at = write_name(file, at, order::input_at(order, place));
+    }
+    at
+}
+
+// The names of inputs 1 to 10 are the numbers from 1 to 10 in another order.
+fn write_name(file: &mut [u8; BYTES], at: usize, input: u32) -> usize {
+    let at = put(file, at, b'I');
+    let at = put_field(file, at, 7 * (input % 16) % 11);
+    put(file, at, b'\n')
+}
+
+fn write_gates(
+    circuit: &[u32; WORDS],
+    order: &[u32; order::WORDS],
+    file: &mut [u8; BYTES],
+    from: usize,
+) -> usize {
     let gates = circuit::gates(circuit);
     let mut at = from;
     let mut gate = 0;
     while gate < gates {
-        at = write_gate(circuit, file, at, gate);
+        at = write_gate(circuit, order, file, at, gate);
         gate += 1;
     }
     at
 }
 
-fn write_gate(circuit: &[u32; WORDS], file: &mut [u8; BYTES], at: usize, gate: u32) -> usize {
+fn write_gate(
+    circuit: &[u32; WORDS],
+    order: &[u32; order::WORDS],
+    file: &mut [u8; BYTES],
+    at: usize,
+    gate: u32,
+) -> usize {
+    let inputs = circuit::inputs(circuit);
+    let p = order::reference(order, inputs, circuit::left(circuit, gate));
+    let q = order::reference(order, inputs, circuit::right(circuit, gate));
     let at = put(file, at, b'G');
     let at = put(file, at, b'\t');
     let at = put_operation(file, at, circuit::operation(circuit, gate));
-    let at = put_field(file, at, circuit::left(circuit, gate));
-    let at = put_field(file, at, circuit::right(circuit, gate));
+    let at = put_field(file, at, p);
+    let at = put_field(file, at, q);
     put(file, at, b'\n')
 }
 
-fn write_outputs(circuit: &[u32; WORDS], file: &mut [u8; BYTES], from: usize) -> usize {
+fn write_outputs(
+    circuit: &[u32; WORDS],
+    order: &[u32; order::WORDS],
+    file: &mut [u8; BYTES],
+    from: usize,
+) -> usize {
     let outputs = circuit::outputs(circuit);
     let mut at = from;
     let mut k = 0;
     while k < outputs {
-        at = write_output(circuit, file, at, k);
+        at = write_output(circuit, order, file, at, k);
         k += 1;
     }
     at
 }
 
-fn write_output(circuit: &[u32; WORDS], file: &mut [u8; BYTES], at: usize, k: u32) -> usize {
+fn write_output(
+    circuit: &[u32; WORDS],
+    order: &[u32; order::WORDS],
+    file: &mut [u8; BYTES],
+    at: usize,
+    k: u32,
+) -> usize {
+    let inputs = circuit::inputs(circuit);
+    let r = order::reference(order, inputs, circuit::output(circuit, k));
     let at = put(file, at, b'O');
-    let at = put_field(file, at, circuit::output(circuit, k));
+    let at = put_field(file, at, r);
     put(file, at, b'\n')
 }
 

@@ -1,11 +1,13 @@
 // Many drawn pairs of circuits: each is written as two drawing files, loaded and compared under varied limits, and each reply is held
-// against truth tables that this program computes from the gates that it drew. First how many pairs were drawn, then a line for each kind
-// of reply, how many came, and how many answers were wrong.
+// against truth tables that this program computes from the gates that it drew. Every third pair is of edition 2, and the inputs of its second
+// file are shuffled. First how many pairs were drawn, how many of them with names, and how many of these with a cycle of three inputs; then a line
+// for each kind of reply, how many came, and how many answers were wrong.
 mod asked;
 mod circuit;
 mod compared;
 mod evaluated;
 mod file;
+mod order;
 mod pair;
 mod random;
 mod rewrite;
@@ -46,6 +48,7 @@ fn main() {
             &mut stages,
             &mut rows,
             &mut marks,
+            drawn,
             &mut seed,
             &mut tally,
         );

@@ -7,13 +7,14 @@ use crate::circuit;
 use crate::compared;
 use crate::evaluated;
 use crate::file;
+use crate::order;
 use crate::rewrite;
 use crate::tables;
 use crate::tally;
 use crate::tally::KINDS;
 use load::Loaded;
 
-// Draws two circuits, loads them, makes the comparisons, and evaluates before and after these.
+// Draws two circuits, loads them, makes the comparisons, and evaluates before and after these. `drawn` is the number of pairs drawn before.
 pub fn try_pair(
     table: &mut [u32; TABLE],
     pairs: &mut [u32; TABLE],
@@ -22,6 +23,7 @@ pub fn try_pair(
     stages: &mut [u32; TABLE],
     rows: &mut [u32; ROWS],
     marks: &mut [u8; VERTICES],
+    drawn: u32,
     seed: &mut u32,
     tally: &mut [u32; KINDS],
 ) {
@@ -31,7 +33,17 @@ pub fn try_pair(
     let mut right = [0u64; tables::WORDS];
     circuit::draw_circuit(&mut one, seed);
     rewrite::rewrite(&one, &mut two, seed);
-    let made = load_pair(&one, &two, table, pairs, look, diagrams, stages, tally);
+    let made = load_pair(
+        &one,
+        &two,
+        drawn,
+        table,
+        pairs,
+        look,
+        diagrams,
+        stages,
+        tally,
+    );
     tables::tabulate(&one, &mut left);
     tables::tabulate(&two, &mut right);
     let facts = facts_of(&one, &two, &left, &right, made);
@@ -51,10 +63,31 @@ pub fn try_pair(
     hold_values(table, &one, &two, &left, &right, marks, seed, tally);
 }
 
-// Writes both circuits as files and loads them; gives back how many vertices were made.
+// The order of the second file's inputs, and the edition: every third pair has names, and its inputs are shuffled. The order is drawn from the
+// pair's number and not from the seed: the pairs and all replies are those of inputs in one order.
+fn draw_order(
+    order: &mut [u32; order::WORDS],
+    inputs: u32,
+    drawn: u32,
+    tally: &mut [u32; KINDS],
+) -> u32 {
+    order::begin(order);
+    if drawn % 3 != 2 {
+        return file::BY_PLACE;
+    }
+    order::shuffle(order, inputs, drawn);
+    tally::count(tally, tally::BY_NAME);
+    if order::has_cycle(order, inputs) {
+        tally::count(tally, tally::CYCLES);
+    }
+    file::BY_NAME
+}
+
+// Writes both circuits as files, the second with its inputs in an order, and loads them; gives back how many vertices were made.
 fn load_pair(
     one: &[u32; circuit::WORDS],
     two: &[u32; circuit::WORDS],
+    drawn: u32,
     table: &mut [u32; TABLE],
     pairs: &mut [u32; TABLE],
     look: &mut [u32; TABLE],
@@ -64,8 +97,12 @@ fn load_pair(
 ) -> u32 {
     let mut left = [0u8; file::BYTES];
     let mut right = [0u8; file::BYTES];
-    let left_end = file::write(one, &mut left);
-    let right_end = file::write(two, &mut right);
+    let mut same = [0u32; order::WORDS];
+    let mut order = [0u32; order::WORDS];
+    order::begin(&mut same);
+    let edition = draw_order(&mut order, circuit::inputs(one), drawn, tally);
+    let left_end = file::write(one, &same, edition, &mut left);
+    let right_end = file::write(two, &order, edition, &mut right);
     let loaded = load::load(
         file::front(&left, left_end),
         file::front(&right, right_end),
@@ -75,16 +112,17 @@ fn load_pair(
         literals,
         outputs,
     );
-    made_of(loaded, tally)
+    made_of(loaded, edition, tally)
 }
 
-// How many vertices were made; a refusal is wrong.
-fn made_of(loaded: Loaded, tally: &mut [u32; KINDS]) -> u32 {
-    let Loaded::Accepted(counts) = loaded else {
-        tally::count(tally, tally::WRONG);
+// How many vertices were made; a refusal is wrong, and so is another edition than the one written.
+fn made_of(loaded: Loaded, written: u32, kinds: &mut [u32; KINDS]) -> u32 {
+    let Loaded::Accepted { edition, tally } = loaded else {
+        tally::count(kinds, tally::WRONG);
         return 0;
     };
-    counts.made
+    tally::hold(kinds, edition == written);
+    tally.made
 }
 
 // Evaluates both sides.

@@ -1,7 +1,7 @@
-// How many replies of each kind came, and how many answers were wrong.
+// How many pairs had names, how many of these a cycle of three inputs, how many replies of each kind came, and how many answers were wrong.
 use libc::STDOUT_FILENO;
 
-pub const KINDS: usize = 7;
+pub const KINDS: usize = 9;
 
 pub const EQUAL: usize = 0;
 
@@ -16,6 +16,10 @@ pub const STEPS: usize = 4;
 pub const REFUSED: usize = 5;
 
 pub const WRONG: usize = 6;
+
+pub const BY_NAME: usize = 7;
+
+pub const CYCLES: usize = 8;
 
 pub fn count(tally: &mut [u32; KINDS], kind: usize) {
     tally[kind % KINDS] = std::num::wrapping_add_u32(tally[kind % KINDS], 1);
@@ -32,6 +36,8 @@ pub fn hold(tally: &mut [u32; KINDS], holds: bool) {
 // Prints how many pairs there were, and the counts of each kind.
 pub fn print(pairs: u32, tally: &[u32; KINDS]) {
     print_line(b"pairs ", pairs);
+    print_kind(b"by name ", tally, BY_NAME);
+    print_kind(b"cycles of three ", tally, CYCLES);
     print_kind(b"equal ", tally, EQUAL);
     print_kind(b"different ", tally, DIFFERENT);
     print_kind(b"size ", tally, SIZE);

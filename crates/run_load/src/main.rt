@@ -109,8 +109,9 @@ fn at_most(n: usize, most: usize) -> usize
 fn show(name: &[u8], loaded: Loaded) {
     io::write_all(STDOUT_FILENO, name);
     match loaded {
-        Loaded::Accepted(tally) => {
-            print(b": asked ", tally.asked);
+        Loaded::Accepted { edition, tally } => {
+            print(b": edition ", edition);
+            print(b" asked ", tally.asked);
             print(b" folded ", tally.folded);
             print(b" found ", tally.found);
             print(b" made ", tally.made);

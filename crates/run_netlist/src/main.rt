@@ -2,18 +2,22 @@
 use libc::STDOUT_FILENO;
 use netlist::Checked;
 use netlist::check;
+use netlist_model::Role;
 use run_card_file::field;
+use run_card_file::number;
 ghost use Prim.Native.Nat.{_<_, _≤_};
 ghost use lib.ListN.{length};
 
-// The bytes of the longest good file: line 1, 436 and 3,660 gate lines, 64 output lines.
+// The bytes of the longest good file of edition 1: line 1, 436 and 3,660 gate lines, 64 output lines.
 const LONGEST: usize = 65127;
 
-fn show(name: &[u8], file: &[u8]) {
+fn show(name: &[u8], file: &[u8], role: Role) {
     io::write_all(STDOUT_FILENO, name);
-    match check::check_file(file) {
+    match check::check_file(file, role) {
         Checked::Accepted(summary) => {
-            print(b": accepted, inputs ", summary.inputs as u64);
+            print(b": accepted, edition ", summary.edition as u64);
+            print(b" inputs ", summary.inputs as u64);
+            print(b" names ", summary.names as u64);
             print(b" gates ", summary.gates as u64);
             print(b" outputs ", summary.outputs as u64);
             print(b" ands ", summary.ands as u64);
@@ -32,7 +36,7 @@ fn print(name: &[u8], number: u64) {
     io::print_decimal(STDOUT_FILENO, number);
 }
 
-// The files of `files.txt`, a card each: a name, and the file.
+// The files of `files.txt`, a card each: a name, the file and, where it is a second file, the edition of the first.
 fn show_cards(file: &[u8]) {
     let count = run_card_file::card_count(file);
     let mut k = 0;
@@ -43,10 +47,22 @@ fn show_cards(file: &[u8]) {
 }
 
 fn show_card(card: &[u8]) {
-    show(field(card, 0), field(card, 1));
+    show(
+        field(card, 0),
+        field(card, 1),
+        role_of(number(field(card, 2))),
+    );
 }
 
-// Writes the longest good file.
+// The role of a file, by the edition of the first file; 0 where it is the first itself.
+fn role_of(edition: u32) -> Role {
+    if edition == 0 {
+        return Role::First;
+    }
+    Role::Second(edition)
+}
+
+// Writes the longest good file of edition 1.
 fn longest() {
     let mut file = [0u8; LONGEST];
     repeat(b"N\t1\t64\t4096\t64\n", &mut file, 0, 15);
@@ -57,7 +73,7 @@ fn longest() {
 }
 
 fn show_longest(file: &[u8; LONGEST]) {
-    show(b"the longest good file", file);
+    show(b"the longest good file of edition 1", file, Role::First);
 }
 
 // Writes a line again and again from `from` up to `to`.

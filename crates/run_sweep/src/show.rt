@@ -62,7 +62,7 @@ fn zeros() -> [u8; MAX_INPUTS]
 
 fn show_line(list: u32, reply: Reply, setting: &[u8]) {
     let mut line = [0u8; LINE_ROOM];
-    let end = reply_line::write_line(&mut line, list, reply, setting);
+    let end = reply_line::write_line(&mut line, netlist_model::BY_PLACE, list, reply, setting);
     if 0 < end {
         io::write_all(STDOUT_FILENO, &line[..end - 1]);
     }

@@ -6,10 +6,10 @@ use Rattle.run_drawn.proofs.file.write_gates.Tie as tie
 use borrow.Author.Needs.{needs}
 
 abbrev Inv-loop : tie.InvT-loop
-Inv-loop circuit file₀ from gates at₀ gate₀ file at gate = gate ≤ gates
+Inv-loop circuit order file₀ from gates at₀ gate₀ file at gate = gate ≤ gates
 
 abbrev μ-loop : tie.MeasureT-loop
-μ-loop circuit file₀ from gates at₀ gate₀ file at gate = gates - gate
+μ-loop circuit order file₀ from gates at₀ gate₀ file at gate = gates - gate
 
 gates-requires : tie.Need-gates-requires Inv-loop μ-loop
 gates-requires c κs = search needs

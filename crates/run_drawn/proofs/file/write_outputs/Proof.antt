@@ -6,10 +6,10 @@ use Rattle.run_drawn.proofs.file.write_outputs.Tie as tie
 use borrow.Author.Needs.{needs}
 
 abbrev Inv-loop : tie.InvT-loop
-Inv-loop circuit file₀ from outputs at₀ k₀ file at k = k ≤ outputs
+Inv-loop circuit order file₀ from outputs at₀ k₀ file at k = k ≤ outputs
 
 abbrev μ-loop : tie.MeasureT-loop
-μ-loop circuit file₀ from outputs at₀ k₀ file at k = outputs - k
+μ-loop circuit order file₀ from outputs at₀ k₀ file at k = outputs - k
 
 outputs-requires : tie.Need-outputs-requires Inv-loop μ-loop
 outputs-requires c κs = search needs

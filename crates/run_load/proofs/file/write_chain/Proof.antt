@@ -6,34 +6,10 @@ use Rattle.run_load.proofs.file.write_chain.Tie as tie
 use borrow.Author.Needs.{needs}
 
 abbrev Inv-loop : tie.InvT-loop
-Inv-loop file₀ numbers gates inverted outputs pieces at₀ i₀ file at i = i ≤ pieces
+Inv-loop file₀ chain pieces at₀ i₀ file at i = i ≤ pieces
 
 abbrev μ-loop : tie.MeasureT-loop
-μ-loop file₀ numbers gates inverted outputs pieces at₀ i₀ file at i = pieces - i
-
-number-at-requires : tie.Need-number-at-requires Inv-loop μ-loop
-number-at-requires c κs = search needs
-
-cast-at-most : tie.Need-cast-at-most Inv-loop μ-loop
-cast-at-most c = search needs
-
-at-most-requires : tie.Need-at-most-requires Inv-loop μ-loop
-at-most-requires c κs = search needs
-
-number-at-requires-2 : tie.Need-number-at-requires-2 Inv-loop μ-loop
-number-at-requires-2 c κs = search needs
-
-cast-inverted : tie.Need-cast-inverted Inv-loop μ-loop
-cast-inverted c = search needs
-
-number-at-requires-3 : tie.Need-number-at-requires-3 Inv-loop μ-loop
-number-at-requires-3 c κs = search needs
-
-cast-at-most-2 : tie.Need-cast-at-most-2 Inv-loop μ-loop
-cast-at-most-2 c = search needs
-
-at-most-requires-2 : tie.Need-at-most-requires-2 Inv-loop μ-loop
-at-most-requires-2 c κs = search needs
+μ-loop file₀ chain pieces at₀ i₀ file at i = pieces - i
 
 mul-pieces : tie.Need-mul-pieces Inv-loop μ-loop
 mul-pieces c = search needs
@@ -46,6 +22,12 @@ mul-pieces-2 c = search needs
 
 add-pieces-2 : tie.Need-add-pieces-2 Inv-loop μ-loop
 add-pieces-2 c = search needs
+
+mul-pieces-3 : tie.Need-mul-pieces-3 Inv-loop μ-loop
+mul-pieces-3 c = search needs
+
+add-pieces-3 : tie.Need-add-pieces-3 Inv-loop μ-loop
+add-pieces-3 c = search needs
 
 loop-holds : tie.Need-loop-holds Inv-loop μ-loop
 loop-holds c = search needs
@@ -74,18 +56,12 @@ write-chain-spec =
     (tie.spec
     Inv-loop
     μ-loop
-    number-at-requires
-    cast-at-most
-    at-most-requires
-    number-at-requires-2
-    cast-inverted
-    number-at-requires-3
-    cast-at-most-2
-    at-most-requires-2
     mul-pieces
     add-pieces
     mul-pieces-2
     add-pieces-2
+    mul-pieces-3
+    add-pieces-3
     loop-holds
     piece-requires
     put-piece-requires
