@@ -9,7 +9,7 @@ use Rattle.netlist_model.specs.code.Accepted.{HoldsNetlist}
 use Rattle.netlist_model.specs.Check.{gatesIn, outputsIn}
 use Rattle.netlist_model.specs.Netlist as netlist
 use Rattle.netlist_model.specs.Netlist.{AllBelow, Netlist, bodyRecords}
-use Rattle.netlist_model.specs.Records.{fileRecords}
+use Rattle.netlist_model.specs.code.Passing.{fileRecords}
 use Rattle.netlist_model.specs.declared.Summary.{Summary}
 use Rattle.table.specs.Limits.{maxAnds, maxInputs, maxOutputs}
 use lib.ListN.{drop, take}

@@ -13,7 +13,8 @@ use Rattle.netlist_model.specs.Check.{andsOf, gatesIn, outputsIn}
 use Rattle.netlist_model.specs.Meaning.{andCount}
 use Rattle.netlist_model.specs.Netlist as netlist
 use Rattle.netlist_model.specs.Netlist.{AllBelow, Downward, gateRecord}
-use Rattle.netlist_model.specs.Records.{fileRecords, recordOf}
+use Rattle.netlist_model.specs.Records.{recordOf}
+use Rattle.netlist_model.specs.code.Passing.{fileRecords}
 use Rattle.netlist_model.specs.declared.Operation.{Operation}
 use Rattle.netlist_model.specs.declared.Record.the-variants.{Gate, Malformed, Output}
 use Rattle.netlist_model.specs.declared.Record.{Record}

@@ -1,8 +1,8 @@
 -- The lines of a file, one after the other.
 use Prim.Native.Nat.{_+_, _-_, _<_, _≤_, ℕ}
 use Rattle.netlist_model.proofs.RecordLaws.{kind-with}
-use Rattle.netlist_model.specs.code.Passing.{firstLine, lineRecord}
-use Rattle.netlist_model.specs.Records.{Line, fileLines, fileRecords, kindOf, lineOf, partLines, malformed-line, name-line, recordOf, unended}
+use Rattle.netlist_model.specs.code.Passing.{fileRecords, firstLine, lineRecord}
+use Rattle.netlist_model.specs.Records.{Line, fileLines, kindOf, lineOf, partLines, malformed-line, name-line, recordOf, unended}
 use Rattle.netlist_model.specs.declared.Record.the-variants.{Malformed, Name}
 use Rattle.netlist_model.specs.declared.Record.{Record}
 use Rattle.text.proofs.SplitLaws.{has-shorter, has-whole, splitAt-append, splitAt-last, splitAt-next, splitAt-some, upTo-all, upTo-shorter}

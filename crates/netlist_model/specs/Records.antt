@@ -95,7 +95,7 @@ fieldsRecord fs =
 unfoldable pub recordOf : List ℕ → Record
 recordOf line = fieldsRecord (splitAt 9 line)
 
--- A line: its record, and in an I record its name too, which the code reads again from the line.
+-- A line: its record, and in an I record its name too.
 pub data Line : Type 0 where
   header-line : ℕ → ℕ → ℕ → ℕ → Line
   name-line : List ℕ → Line
@@ -141,6 +141,3 @@ fileLines bytes = partLines (splitAt 10 bytes)
 -- The records of lines.
 abbrev pub recordsIn : List Line → List Record
 recordsIn ls = map kindOf ls
-
-abbrev pub fileRecords : List ℕ → List Record
-fileRecords bytes = recordsIn (fileLines bytes)

@@ -7,7 +7,8 @@ use Rattle.load_model.specs.Build.{Traced, askGates}
 use Rattle.netlist_model.specs.Check.{andsOf, gatesIn, outputsIn}
 use Rattle.netlist_model.specs.Meaning.{andCount}
 use Rattle.netlist_model.specs.Netlist.{AllBelow, Downward, Gate, gateRecord}
-use Rattle.netlist_model.specs.Records.{fileRecords, recordOf}
+use Rattle.netlist_model.specs.Records.{recordOf}
+use Rattle.netlist_model.specs.code.Passing.{fileRecords}
 use Rattle.netlist_model.specs.declared.Record.the-variants.{Output}
 use Rattle.table.specs.Limits.{maxAnds}
 use Rattle.text.specs.Split.{upTo}

@@ -3,8 +3,8 @@ use Prim.Native.Nat.{_≤_, ℕ}
 use Rattle.netlist_model.specs.Check.{Counts, netlistIn, read, readNetlist, summaryCounts}
 use Rattle.netlist_model.specs.Meaning.{andCount}
 use Rattle.netlist_model.specs.Netlist.{Netlist, Within, bodyRecords, bytesOf, netlistLines}
-use Rattle.netlist_model.specs.Records.{fileLines, fileRecords}
-use Rattle.netlist_model.specs.code.Passing.{gatesAt}
+use Rattle.netlist_model.specs.Records.{fileLines}
+use Rattle.netlist_model.specs.code.Passing.{fileRecords, gatesAt}
 use Rattle.netlist_model.specs.declared.Role.the-variants as role
 use Rattle.netlist_model.specs.declared.Role.the-variants.{Second}
 use Rattle.netlist_model.specs.declared.Role.{Role}

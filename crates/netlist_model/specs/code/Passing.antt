@@ -2,7 +2,7 @@
 use Prim.Native.Nat.{_*_, _+_, _<_, _≤_, suc, zero, ℕ}
 use Rattle.netlist_model.specs.Check.{dueAfter, lineTests, namesIn}
 use Rattle.netlist_model.specs.Limits.{maxGates}
-use Rattle.netlist_model.specs.Records.{Line, fileLines, kindOf, lineOf, malformed-line, name-line}
+use Rattle.netlist_model.specs.Records.{Line, fileLines, kindOf, lineOf, malformed-line, name-line, recordsIn}
 use Rattle.netlist_model.specs.declared.Body.{Body}
 use Rattle.netlist_model.specs.declared.Checked.the-variants.{Accepted, Refused}
 use Rattle.netlist_model.specs.declared.Checked.{Checked}
@@ -21,6 +21,10 @@ use lib.ListN.{drop, length, take}
 use mathlib.Core.Bool.{cond}
 use mathlib.Core.List.{List, [], _++_, _∷_, map}
 use mathlib.Core.Path.{_≡_}
+
+-- The records of a file's lines.
+abbrev pub fileRecords : List ℕ → List Record
+fileRecords bytes = recordsIn (fileLines bytes)
 
 -- The first of some bytes' lines: "2. The line is not an N, I, G or O record of this layout or has no end byte." (RULES 8.1)
 unfoldable pub firstLine : List ℕ → Line
