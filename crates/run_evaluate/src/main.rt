@@ -1,5 +1,6 @@
 // The evaluator as the calls of `calls.txt` say: on the and/or table of the rules on all settings, on each refusal alone and before the next,
-// and on tables with no inputs, the most inputs and the most vertices. A line for each call: what was asked, and what came.
+// on tables with no inputs, the most inputs and the most vertices, and with constraints, of which the value takes no notice. A line for each
+// call: what was asked, and what came.
 // The fields of a call: its name; the table's words, none for the chain of the most vertices; side; output; setting; the working slice's bytes.
 use evaluate::Evaluated;
 use libc::STDOUT_FILENO;
@@ -14,8 +15,8 @@ ghost use mathlib.Core.Path.{_≡_};
 // The vertices of the largest table: the constant, 64 inputs, 6,144 made.
 const MOST_VERTICES: usize = 6209;
 
-// The words of the largest table with one output a side: 3, two for each made vertex, and 2.
-const MOST_WORDS: usize = 12293;
+// The words of the largest table with one output a side: 3, two for each made vertex, 2, and the constraint's.
+const MOST_WORDS: usize = 12294;
 
 fn no_values() -> [u8; MOST_VERTICES]
     ensures { λ r. ⌜ 6209 ≡ length r ⌝ }
@@ -58,6 +59,7 @@ fn fill_chain(table: &mut [u32; MOST_WORDS]) {
     }
     table[12291] = 12416;
     table[12292] = 12417;
+    table[12293] = 1;
 }
 
 // The table of a field of numbers; of an empty one it is the chain. Gives back how many words it has.

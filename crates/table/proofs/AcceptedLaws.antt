@@ -5,7 +5,7 @@ use Rattle.table.proofs.RefusalLaws.{none-applies}
 use Rattle.table.specs.Accepted.{Accepted, Downward, RowBelow, WellFormed}
 use Rattle.table.specs.Limits.{maxAnds, maxInputs, maxOutputs}
 use Rattle.table.specs.Refusals.{firstRefusal}
-use Rattle.table.specs.Table.{allBelow?, beyondLimits?, downward?, inputsOf, madeOf, malformed?, outOfOrder?, outputWords, outputsOf, promised, rowAt, rowBelow?, rowsOf, sideOutputs, sideStart, tableTests, verticesOf}
+use Rattle.table.specs.Table.{allBelow?, beyondLimits?, constraintOf, downward?, inputsOf, madeOf, malformed?, outOfOrder?, outputWords, outputsOf, promised, rowAt, rowBelow?, rowsOf, sideOutputs, sideStart, tableTests, verticesOf}
 use Rattle.table.specs.Values.{Pair}
 use Rattle.truth.proofs.Booleans.{and-left, and-right, neither}
 use borrow.Author.Tests.{eqb-false, le-ltb, lt-ltb, ltb-false, ltb-true, ne-eqb, not-false}
@@ -90,11 +90,13 @@ unfolding outOfOrder?
 accepted ws h =
     let p = none-applies 10 (malformed? ws) (record { answer = 11; applies = outOfOrder? ws } ∷ []) (omega arith) h in
     let q = none-applies 11 (outOfOrder? ws) [] (omega arith) (p .1) in
-    let t = not-false (ordered && below) (q .0) in
+    let t = not-false (ordered && below && constrained) (q .0) in
+    let u = and-left (ordered && below) constrained t in
     record {
       formed = well-formed ws (p .0);
-      rows = downward (1 + inputsOf ws) (rowsOf ws) (and-left ordered below t);
-      references = all-below (2 * verticesOf ws) (outputWords ws) (and-right ordered below t);
+      rows = downward (1 + inputsOf ws) (rowsOf ws) (and-left ordered below u);
+      references = all-below (2 * verticesOf ws) (outputWords ws) (and-right ordered below u);
+      constraint = ltb-true (constraintOf ws) (2 * verticesOf ws) (and-right (ordered && below) constrained t);
     }
   where
     ordered : Bool
@@ -103,11 +105,14 @@ accepted ws h =
     below : Bool
     below = allBelow? (2 * verticesOf ws) (outputWords ws)
 
+    constrained : Bool
+    constrained = ltb (constraintOf ws) (2 * verticesOf ws)
+
 pub accepts : (ws : List ℕ) → Accepted ws → firstRefusal 0 (tableTests ws) ≡ 0
 unfolding firstRefusal outOfOrder?
 accepts ws h =
     rw (well-formed-tested ws (h .formed), downward-tested (1 + inputsOf ws) (rowsOf ws) (h .rows))
-    (rw (all-below-tested (2 * verticesOf ws) (outputWords ws) (h .references)) refl)
+    (rw (all-below-tested (2 * verticesOf ws) (outputWords ws) (h .references), lt-ltb (constraintOf ws) (2 * verticesOf ws) (h .constraint)) refl)
 
 module _ {ws : List ℕ} (h : Accepted ws) where
   -- The words of row i are below twice its vertex.

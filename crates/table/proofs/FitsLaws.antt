@@ -31,6 +31,7 @@ fits-accepted ws h =
           λ k l.
           let at : k < 2 * outputsOf ws = omega (arith, length-output-words ws (h .whole)) in
           rw (output-word-at ws k at) (h .references k at);
+      constraint = h .constraint;
     }
 
 -- Neither 10 nor 11 applies to it.
@@ -50,6 +51,7 @@ accepted-fits {ws} h =
       firsts = λ i l. row-words-below h i l .first;
       seconds = λ i l. row-words-below h i l .second;
       references = λ k l. rw (← output-word-at ws k l) (h .references k (omega (arith, length-output-words ws (h .formed .whole))));
+      constraint = h .constraint;
     }
 
 -- So do words to which neither applies.

@@ -2,7 +2,7 @@
 use Prim.Native.Nat.{_*_, _+_, _<_, _≤_, suc, zero, ℕ}
 use Rattle.aig.proofs.TruthLaws.{functions}
 use Rattle.aig.proofs.ValuesLaws.{all-good}
-use Rattle.aig.specs.Values.{AllGood}
+use Rattle.aig.specs.Values.{AllGood, literalValue}
 use Rattle.table.proofs.MeaningLaws.{length-values, literal-mapped, row-value, value-kept, values-good, values-mapped, values-unique}
 use Rattle.table.specs.Accepted.{Downward, RowBelow}
 use Rattle.table.specs.Table.{Graph, firstFunctions, functionsOf, inputsFrom, outputFunction, outputValue, outputs, valuesOn}
@@ -41,11 +41,15 @@ module _ (g : Graph) (s : Setting) (h : length s ≡ g .inputs) where
       ∙ ap (λ (vs : List Bool). vertexValues not _&&_ false vs (g .rows))
       (inputs-values (g .inputs) 0 (suc (g .inputs)) s h (omega arith))
 
-  -- On a setting the function of an output has the output's value.
+  -- On a setting the function of a literal has the literal's value,
+  pub value-reference : (r : ℕ) → valueAt (literalValue invert conj (constantly (g .inputs) false) (functionsOf g) r) s
+      ≡ literalValue not _&&_ false (valuesOn g s) r
+  value-reference r = literal-mapped (values-at (g .inputs) s) (functionsOf g) r ∙ rw values-functions
+
+  -- and that of an output the output's.
   pub value-output : (side k : ℕ) → valueAt (outputFunction g side k) s ≡ outputValue g side k s
   unfolding outputFunction outputValue
-  value-output side k =
-      literal-mapped (values-at (g .inputs) s) (functionsOf g) (getD (outputs g side) k 0) ∙ rw values-functions
+  value-output side k = value-reference (getD (outputs g side) k 0)
 
 length-inputs : (n i k : ℕ) → length (inputsFrom n i k) ≡ k
 unfolding inputsFrom

@@ -7,9 +7,15 @@ use lib.Dec.{eqb}
 use lib.ListN.{drop, getD, length, length-drop, length-take, take}
 use lib.Seq.{drop-drop, getD-drop, getD-take}
 use mathlib.Core.Bool.{Bool, cond, false, true}
-use mathlib.Core.List.{List, _∷_}
+use mathlib.Core.List.{List, [], _∷_, map}
 use mathlib.Core.Path.{_∙_, _≡_, ap, refl}
 use native.Mathlib.Omega.{arith}
+
+-- What stands at a place of a list that is mapped.
+pub map-at : {A B : Type 0} (f : A → B) (xs : List A) (i : ℕ) (d : B) (e : A) → i < length xs → getD (map f xs) i d ≡ f (getD xs i e)
+map-at f [] i d e h = absurd (omega arith)
+map-at f (x ∷ xs) zero d e h = refl
+map-at f (x ∷ xs) (suc i) d e h = map-at f xs i d e (omega arith)
 
 -- The first of some rows is read off, and the others stand two words further.
 pub pairs-suc : (n at : ℕ) (ws : List ℕ) → pairs (suc n) (drop at ws) ≡ rowAt ws at ∷ pairs n (drop (at + 2) ws)

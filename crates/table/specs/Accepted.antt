@@ -1,7 +1,7 @@
 -- What is known of words to which neither 10 nor 11 applies. (RULES 8.1)
 use Prim.Native.Nat.{_*_, _+_, _<_, _≤_, ℕ}
 use Rattle.table.specs.Limits.{maxAnds, maxInputs, maxOutputs}
-use Rattle.table.specs.Table.{inputsOf, madeOf, outputWords, outputsOf, promised, rowsOf, verticesOf}
+use Rattle.table.specs.Table.{constraintOf, inputsOf, madeOf, outputWords, outputsOf, promised, rowsOf, verticesOf}
 use Rattle.table.specs.Values.{Pair}
 use lib.ListN.{getD, length}
 use mathlib.Core.List.{List}
@@ -29,3 +29,4 @@ pub record Accepted (ws : List ℕ) : Type 0 where
   pub formed : WellFormed ws
   pub rows : Downward (1 + inputsOf ws) (rowsOf ws)
   pub references : (k : ℕ) → k < length (outputWords ws) → getD (outputWords ws) k 0 < 2 * verticesOf ws
+  pub constraint : constraintOf ws < 2 * verticesOf ws

@@ -49,9 +49,13 @@ sideStart ws side = cond (eqb side 1) 0 (outputsOf ws)
 unfoldable pub sideOutputs : List ℕ → ℕ → List ℕ
 sideOutputs ws side = take (outputsOf ws) (drop (sideStart ws side) (outputWords ws))
 
+-- "The table holds r's reference after the outputs, 1 where no line gives it": the constraint's literal. (RULES 1.13, 4.1)
+abbrev pub constraintOf : List ℕ → ℕ
+constraintOf ws = getD ws (3 + 2 * madeOf ws + 2 * outputsOf ws) 0
+
 -- The words that a header promises.
 abbrev pub promised : ℕ → ℕ → ℕ
-promised made outputs = 3 + 2 * made + 2 * outputs
+promised made outputs = 3 + 2 * made + 2 * outputs + 1
 
 -- "has a header beyond the limits" (RULES 8.1)
 unfoldable pub beyondLimits? : ℕ → ℕ → ℕ → Bool
@@ -78,9 +82,11 @@ unfoldable pub downward? : ℕ → List Pair → Bool
 downward? v [] = true
 downward? v (r ∷ rs) = rowBelow? (2 * v) r && downward? (suc v) rs
 
--- "11. A table reference is not below twice its vertex's number (outputs: all vertices)." (RULES 8.1)
+-- "11. A table reference is not below twice its vertex's number (outputs: all vertices).", "6 and 11 cover r as they do an output" (RULES 8.1)
 unfoldable pub outOfOrder? : List ℕ → Bool
-outOfOrder? ws = not (downward? (1 + inputsOf ws) (rowsOf ws) && allBelow? (2 * verticesOf ws) (outputWords ws))
+outOfOrder? ws =
+    not
+    (downward? (1 + inputsOf ws) (rowsOf ws) && allBelow? (2 * verticesOf ws) (outputWords ws) && ltb (constraintOf ws) (2 * verticesOf ws))
 
 -- Tests 10 and 11, for any words at all. (RULES 9.3, 9.4)
 abbrev pub tableTests : List ℕ → List (Test ℕ)

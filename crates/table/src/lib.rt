@@ -3,7 +3,7 @@ use aig::literal::Literal;
 ghost use Prim.Native.Nat.{_<_};
 ghost use Rattle.aig.specs.Literal.{lit};
 ghost use Rattle.table.specs.Accepted.{WellFormed};
-ghost use Rattle.table.specs.Table.{beyondLimits?, inputsOf, madeOf, outputsOf, sideOutputs, verticesOf};
+ghost use Rattle.table.specs.Table.{beyondLimits?, constraintOf, inputsOf, madeOf, outputsOf, sideOutputs, verticesOf};
 ghost use lib.ListN.{getD};
 ghost use mathlib.Core.Path.{_≡_};
 
@@ -76,4 +76,14 @@ pub fn output_literal(words: &[u32], side: u32, output: usize) -> Literal
     } else {
         Literal(words[at + outputs])
     }
+}
+
+// The literal of the constraint, after the outputs: 1 where there is none.
+pub fn constraint(words: &[u32]) -> Literal
+    requires { ⌜ WellFormed (now words) ⌝ }
+    ensures { λ r. ⌜ r ≡ lit (constraintOf (now (words .entry))) ⌝ }
+{
+    let made = words[1] as usize;
+    let outputs = words[2] as usize;
+    Literal(words[HEADER + 2 * made + 2 * outputs])
 }

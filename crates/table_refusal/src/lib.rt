@@ -19,7 +19,7 @@ fn is_malformed(words: &[u32]) -> bool
     if table::beyond_limits(words[0], made, outputs) {
         return true;
     }
-    words.len() < HEADER + 2 * made as usize + 2 * outputs as usize
+    words.len() < HEADER + 2 * made as usize + 2 * outputs as usize + 1
 }
 
 fn row_below(words: &[u32], at: usize, bound: u32) -> bool
@@ -73,7 +73,11 @@ fn is_out_of_order(words: &[u32]) -> bool
     }
     let from = HEADER + 2 * made;
     let end = from + 2 * outputs;
-    !all_below(&words[from..end], 2 * (1 + inputs + rows))
+    let bound = 2 * (1 + inputs + rows);
+    if !all_below(&words[from..end], bound) {
+        return true;
+    }
+    !(words[end] < bound)
 }
 
 // The first of the refusals 10 and 11 that applies to some words, or 0.

@@ -66,6 +66,9 @@ element-write-table-6 c = search needs
 element-write-table-7 : tie.Need-element-write-table-7 Inv-loop μ-loop
 element-write-table-7 c = search needs
 
+element-write-table-8 : tie.Need-element-write-table-8 Inv-loop μ-loop
+element-write-table-8 c = search needs
+
 returns : tie.Need-returns Inv-loop μ-loop
 returns c = search needs
 
@@ -93,4 +96,5 @@ fill-chain-spec =
     loop-again
     element-write-table-6
     element-write-table-7
+    element-write-table-8
     returns)

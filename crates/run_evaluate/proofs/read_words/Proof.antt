@@ -6,7 +6,7 @@ use Rattle.run_evaluate.proofs.read_words.Tie as tie
 use borrow.Author.Needs.{needs}
 
 abbrev Inv-loop : tie.InvT-loop
-Inv-loop numbers table₀ count i₀ table i = i ≤ 12293
+Inv-loop numbers table₀ count i₀ table i = i ≤ 12294
 
 abbrev μ-loop : tie.MeasureT-loop
 μ-loop numbers table₀ count i₀ table i = count - i

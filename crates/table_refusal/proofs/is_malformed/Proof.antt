@@ -45,6 +45,9 @@ mul-result-2 c = omega (arith, c .before .before .shared-slice-known4 .given 2)
 add-result-2 : tie.Need-add-result-2
 add-result-2 c = omega (arith, c .before .before .shared-slice-known4 .given 1, c .before .before .shared-slice-known4 .given 2)
 
+add-result-3 : tie.Need-add-result-3
+add-result-3 c = omega (arith, c .before .before .shared-slice-known4 .given 1, c .before .before .shared-slice-known4 .given 2)
+
 returns-3 : tie.Need-returns-3
 unfolding malformed?
 returns-3 c = rw (le-ltb _ _ (c .before .before .before .before .before .if1 .left), sym (c .before .beyond-limits .ensures) ∙ c .if2 .left)
@@ -65,4 +68,5 @@ is-malformed-spec =
     cast-result-2
     mul-result-2
     add-result-2
+    add-result-3
     returns-3)

@@ -1,12 +1,24 @@
--- The rows are tested, then the output references; no loop.
-use Prim.Native.Nat.{_*_, _+_, _-_}
+-- The rows are tested, then the output references, then the constraint's; no loop.
+use Prim.Native.Nat.{_*_, _+_, _-_, ℕ}
 use Rattle.table_refusal.proofs.is_out_of_order.Statement.{statement}
 use Rattle.table_refusal.proofs.is_out_of_order.Tie as tie
-use Rattle.table.specs.Table.{madeOf, outOfOrder?, outputWords, outputsOf, rowsOf}
+use Rattle.table.specs.Table.{allBelow?, madeOf, outOfOrder?, outputWords, outputsOf, rowsOf}
 use borrow.Author.Needs.{needs}
 use borrow.Author.Tests.{not-false, not-true}
-use mathlib.Core.Path.{_≡_, refl}
+use lib.ListN.{drop, take}
+use mathlib.Core.Bool.{Bool}
+use mathlib.Core.List.{List}
+use mathlib.Core.Path.{_≡_, refl, sym}
 use native.Mathlib.Omega.{arith}
+
+-- The part between the rows and the constraint's word is that of the output references.
+references-part : (ws : List ℕ) (bound : ℕ) (t : Bool)
+    → t ≡ allBelow? bound (take (3 + 2 * madeOf ws + 2 * outputsOf ws - (3 + 2 * madeOf ws)) (drop (3 + 2 * madeOf ws) ws))
+    → allBelow? bound (outputWords ws) ≡ t
+unfolding outputWords
+references-part ws bound t h =
+    let part : 3 + 2 * madeOf ws + 2 * outputsOf ws - (3 + 2 * madeOf ws) ≡ 2 * outputsOf ws = omega arith in
+    sym (rw (part) at h)
 
 shared-slice-read-inputs : tie.Need-shared-slice-read-inputs
 shared-slice-read-inputs c = search needs
@@ -47,6 +59,15 @@ mul-end c = search needs
 add-end : tie.Need-add-end
 add-end c = search needs
 
+add-bound : tie.Need-add-bound
+add-bound c = search needs
+
+add-bound-2 : tie.Need-add-bound-2
+add-bound-2 c = search needs
+
+mul-bound : tie.Need-mul-bound
+mul-bound c = search needs
+
 mul-all-below : tie.Need-mul-all-below
 mul-all-below c = search needs
 
@@ -59,26 +80,33 @@ part-all-below-start c = search needs
 part-all-below-end : tie.Need-part-all-below-end
 part-all-below-end c = search needs
 
-add-all-below : tie.Need-add-all-below
-add-all-below c = search needs
-
-add-all-below-2 : tie.Need-add-all-below-2
-add-all-below-2 c = search needs
-
-mul-all-below-2 : tie.Need-mul-all-below-2
-mul-all-below-2 c = search needs
-
 all-below-requires : tie.Need-all-below-requires
 all-below-requires c κs = search needs
 
 returns-2 : tie.Need-returns-2
-unfolding outOfOrder? outputWords rowsOf
+unfolding outOfOrder? rowsOf
 returns-2 c =
-    let at-rows = c .before .before in
+    let at-rows = c .before .before .before in
     let rows = at-rows .before .is-downward in
-    let ws = at-rows .before .before .before .before .before .before .args .words .now in
-    let part : 3 + 2 * madeOf ws + 2 * outputsOf ws - (3 + 2 * madeOf ws) ≡ 2 * outputsOf ws = omega arith in
-    rw (← rows .ensures, not-false (rows .result) (at-rows .if1 .left), c .all-below .ensures, part) refl
+    let below = c .before .all-below in
+    rw (← rows .ensures, not-false (rows .result) (at-rows .if1 .left))
+    (rw (references-part _ _ _ (below .ensures), not-true (below .result) (c .if2 .taken)) refl)
+
+mul-result : tie.Need-mul-result
+mul-result c = search needs
+
+shared-slice-read-result : tie.Need-shared-slice-read-result
+shared-slice-read-result c = search needs
+
+returns-3 : tie.Need-returns-3
+unfolding outOfOrder? rowsOf
+returns-3 c =
+    let at-outputs = c .before in
+    let at-rows = at-outputs .before .before .before in
+    let rows = at-rows .before .is-downward in
+    let below = at-outputs .before .all-below in
+    rw (← rows .ensures, not-false (rows .result) (at-rows .if1 .left))
+    (rw (references-part _ _ _ (below .ensures), not-false (below .result) (at-outputs .if2 .left)) refl)
 
 pub is-out-of-order-spec : {M : Type 1} → statement M
 is-out-of-order-spec =
@@ -96,12 +124,15 @@ is-out-of-order-spec =
     add-from
     mul-end
     add-end
+    add-bound
+    add-bound-2
+    mul-bound
     mul-all-below
     sub-all-below
     part-all-below-start
     part-all-below-end
-    add-all-below
-    add-all-below-2
-    mul-all-below-2
     all-below-requires
-    returns-2)
+    returns-2
+    mul-result
+    shared-slice-read-result
+    returns-3)
