@@ -9,13 +9,13 @@ use netlist_model::Stepped;
 use netlist_model::Summary;
 use netlist_records::lines;
 use netlist_records::records;
-ghost use Prim.Native.Nat.{_<_};
-ghost use Rattle.netlist_model.specs.Check.{andsOf, answerOf, checkFile, finish, suits?};
+ghost use Prim.Native.Nat.{_*_, _+_, _<_};
+ghost use Rattle.netlist_model.specs.Check.{andsOf, answerOf, checkFile, constraintsDue, finish, reached, suits?};
 ghost use Rattle.netlist_model.specs.Limits.{byName, byPlace};
 ghost use Rattle.netlist_model.specs.Names.{nameCount};
-ghost use Rattle.netlist_model.specs.Records.{gate-line, header-line, lineWith, output-line};
+ghost use Rattle.netlist_model.specs.Records.{constraint-line, gate-line, header-line, lineWith, output-line};
 ghost use Rattle.netlist_model.specs.code.Passing.{Counted, Held, NamesThere, SeenThere, StartInside, StartsAt, firstLine, frontNames, lineRecord, seenBy, stepOf};
-ghost use lib.Dec.{eqb};
+ghost use lib.Dec.{eqb, leb};
 ghost use lib.ListN.{drop, length};
 ghost use mathlib.Core.Bool.{_&&_, _||_};
 ghost use mathlib.Core.List.{[]};
@@ -77,6 +77,7 @@ fn first_step(role: Role, found: Record) -> Stepped
         Record::Name => Stepped::Refuse(5),
         Record::Gate { op: _, p: _, q: _ } => Stepped::Refuse(5),
         Record::Output(_) => Stepped::Refuse(5),
+        Record::Constraint(_) => Stepped::Refuse(5),
         Record::Header {
             edition,
             inputs,
@@ -110,10 +111,13 @@ fn header_step(role: Role, edition: u32, inputs: u32, gates: u32, outputs: u32) 
         names: name_count(edition, inputs),
         gates,
         outputs,
+        constraints: constraints_due(role),
         name: 0,
         gate: 0,
         output: 0,
+        constraint: 0,
         ands: 0,
+        reference: 1,
     }))
 }
 
@@ -143,6 +147,16 @@ fn name_count(edition: u32, inputs: u32) -> u32
     0
 }
 
+// How many C lines may come.
+fn constraints_due(role: Role) -> u32
+    ensures { λ r. ⌜ r ≡ constraintsDue role ⌝ }
+{
+    match role {
+        Role::First => 1,
+        Role::Second(_) => 0,
+    }
+}
+
 fn later_step(file: &[u8], at: usize, body: Body, found: Record) -> Stepped
     requires { ⌜ Counted body ⌝ }
     requires { ⌜ NamesThere (now file) (body .name) ⌝ }
@@ -161,6 +175,7 @@ fn later_step(file: &[u8], at: usize, body: Body, found: Record) -> Stepped
         Record::Name => name_step(file, at, body),
         Record::Gate { op, p, q } => gate_step(body, op, p, q),
         Record::Output(r) => output_step(body, r),
+        Record::Constraint(r) => constraint_step(body, r),
     }
 }
 
@@ -178,17 +193,43 @@ fn name_step(file: &[u8], at: usize, body: Body) -> Stepped
     if netlist_names::find_name(file, body.name, name) < body.name {
         return Stepped::Refuse(18);
     }
-    Stepped::Next(Due::Later(Body {
+    Stepped::Next(Due::Later(reached(
+        body,
+        body.name + 1,
+        body.gate,
+        body.output,
+        body.constraint,
+        body.ands,
+        body.reference,
+    )))
+}
+
+// What is due where so many names, gates, outputs and C lines are read, with the ANDs of these gates and the reference of a C line.
+fn reached(
+    body: Body,
+    name: u32,
+    gate: u32,
+    output: u32,
+    constraint: u32,
+    ands: u32,
+    reference: u32,
+) -> Body
+    ensures { λ r. ⌜ r ≡ reached body name gate output constraint ands reference ⌝ }
+{
+    Body {
         edition: body.edition,
         inputs: body.inputs,
         names: body.names,
         gates: body.gates,
         outputs: body.outputs,
-        name: body.name + 1,
-        gate: body.gate,
-        output: body.output,
-        ands: body.ands,
-    }))
+        constraints: body.constraints,
+        name,
+        gate,
+        output,
+        constraint,
+        ands,
+        reference,
+    }
 }
 
 fn gate_step(body: Body, op: Operation, p: u32, q: u32) -> Stepped
@@ -208,17 +249,15 @@ fn gate_step(body: Body, op: Operation, p: u32, q: u32) -> Stepped
     if bound <= q {
         return Stepped::Refuse(6);
     }
-    Stepped::Next(Due::Later(Body {
-        edition: body.edition,
-        inputs: body.inputs,
-        names: body.names,
-        gates: body.gates,
-        outputs: body.outputs,
-        name: body.name,
-        gate: body.gate + 1,
-        output: body.output,
-        ands: body.ands + ands_of(op),
-    }))
+    Stepped::Next(Due::Later(reached(
+        body,
+        body.name,
+        body.gate + 1,
+        body.output,
+        body.constraint,
+        body.ands + ands_of(op),
+        body.reference,
+    )))
 }
 
 // How many ANDs a gate stands for.
@@ -245,20 +284,56 @@ fn output_step(body: Body, r: u32) -> Stepped
     if body.outputs <= body.output {
         return Stepped::Refuse(5);
     }
-    if 2 * (1 + body.inputs + body.gates) <= r {
+    if is_past(body, r) {
         return Stepped::Refuse(6);
     }
-    Stepped::Next(Due::Later(Body {
-        edition: body.edition,
-        inputs: body.inputs,
-        names: body.names,
-        gates: body.gates,
-        outputs: body.outputs,
-        name: body.name,
-        gate: body.gate,
-        output: body.output + 1,
-        ands: body.ands,
-    }))
+    Stepped::Next(Due::Later(reached(
+        body,
+        body.name,
+        body.gate,
+        body.output + 1,
+        body.constraint,
+        body.ands,
+        body.reference,
+    )))
+}
+
+// Whether a reference is not below twice the number of vertices.
+fn is_past(body: Body, r: u32) -> bool
+    requires { ⌜ Counted body ⌝ }
+    ensures { λ t. ⌜ t ≡ leb (2 * (1 + body .inputs + body .gates)) r ⌝ }
+{
+    2 * (1 + body.inputs + body.gates) <= r
+}
+
+fn constraint_step(body: Body, r: u32) -> Stepped
+    requires { ⌜ Counted body ⌝ }
+    ensures { λ s. ⌜ s ≡ stepOf [] (Due.Later body) (constraint-line r) ⌝ }
+{
+    if body.name != body.names {
+        return Stepped::Refuse(5);
+    }
+    if body.gate != body.gates {
+        return Stepped::Refuse(5);
+    }
+    if body.output != body.outputs {
+        return Stepped::Refuse(5);
+    }
+    if body.constraints <= body.constraint {
+        return Stepped::Refuse(5);
+    }
+    if is_past(body, r) {
+        return Stepped::Refuse(6);
+    }
+    Stepped::Next(Due::Later(reached(
+        body,
+        body.name,
+        body.gate,
+        body.output,
+        body.constraint + 1,
+        body.ands,
+        r,
+    )))
 }
 
 // After the last line, `line` being the number of the next.
@@ -287,6 +362,7 @@ fn ended(file: &[u8], line: u32, due: Due) -> Checked
         gates: body.gates,
         outputs: body.outputs,
         ands: body.ands,
+        reference: body.reference,
         start: netlist_names::place_after(file, 1 + body.names),
     })
 }

@@ -2,13 +2,13 @@
 use Prim.Native.Nat.{_*_, _+_, _≤_, ℕ}
 use Rattle.netlist_model.proofs.LineLaws.{lines-end, lines-line}
 use Rattle.netlist_model.proofs.NameLaws.{name-told}
-use Rattle.netlist_model.proofs.RecordLaws.{Spelled, fields-lack, fields-some, gate, header, kind-with, line-end, named, output, read-written, spelled-read, tab}
+use Rattle.netlist_model.proofs.RecordLaws.{Spelled, constraint, fields-lack, fields-some, gate, header, kind-with, line-end, named, output, read-written, spelled-read, tab}
 use Rattle.netlist_model.specs.Limits.{maxGates}
 use Rattle.netlist_model.specs.Names as names
 use Rattle.netlist_model.specs.Names.{NewNames}
 use Rattle.netlist_model.specs.Netlist as netlist
 use Rattle.netlist_model.specs.Netlist.{AllBelow, Downward, Gate, Netlist, Within, bodyLines, fieldsOf, gateLine, lineBytes, linesBytes, netlistLines}
-use Rattle.netlist_model.specs.Records.{Line, fieldsRecord, fileLines, kindOf, lineOf, lineWith, partLines, malformed-line, name-line, output-line, recordOf, unended}
+use Rattle.netlist_model.specs.Records.{Line, constraint-line, fieldsRecord, fileLines, kindOf, lineOf, lineWith, partLines, malformed-line, name-line, output-line, recordOf, unended}
 use Rattle.netlist_model.specs.declared.Record.the-variants.{Malformed}
 use Rattle.netlist_model.specs.declared.Record.{Record}
 use Rattle.table.specs.Limits.{maxInputs}
@@ -47,6 +47,7 @@ spelled-formed (header he hi hg ho) e = let z : _≡_ {A = ℕ} 0 1 = cc in omeg
 spelled-formed (named h) e = let z : _≡_ {A = ℕ} 0 1 = cc in omega arith
 spelled-formed (gate hp hq) e = let z : _≡_ {A = ℕ} 0 1 = cc in omega arith
 spelled-formed (output h) e = let z : _≡_ {A = ℕ} 0 1 = cc in omega arith
+spelled-formed (constraint h) e = let z : _≡_ {A = ℕ} 0 1 = cc in omega arith
 
 -- What is read as such a line is that line's bytes.
 line-written : (line : List ℕ) → Spelled (lineOf line) → line ≡ join 9 (fieldsOf (lineOf line))
@@ -97,9 +98,14 @@ gates-spelled netlist.Downward.none h s = s
 gates-spelled (netlist.Downward.gate {g = g} p q d) h s =
     next (gate {p = g .p} {q = g .q} (omega arith) (omega arith)) (gates-spelled d (omega arith) s)
 
-outputs-spelled : {n : ℕ} {os : List ℕ} → AllBelow n os → n ≤ 2 * (1 + maxInputs + maxGates) → AllSpelled (map output-line os)
-outputs-spelled netlist.AllBelow.none h = none
-outputs-spelled (netlist.AllBelow.next {r = r} l b) h = next (output {r = r} (omega arith)) (outputs-spelled b h)
+outputs-spelled :
+    {n : ℕ} {os : List ℕ} {ls : List Line} → AllBelow n os → n ≤ 2 * (1 + maxInputs + maxGates) → AllSpelled ls → AllSpelled (map output-line os ++ ls)
+outputs-spelled netlist.AllBelow.none h s = s
+outputs-spelled (netlist.AllBelow.next {r = r} l b) h s = next (output {r = r} (omega arith)) (outputs-spelled b h s)
+
+constraints-spelled : {n : ℕ} {rs : List ℕ} → AllBelow n rs → n ≤ 2 * (1 + maxInputs + maxGates) → AllSpelled (map constraint-line rs)
+constraints-spelled netlist.AllBelow.none h = none
+constraints-spelled (netlist.AllBelow.next {r = r} l b) h = next (constraint {r = r} (omega arith)) (constraints-spelled b h)
 
 names-spelled : {seen ns : List (List ℕ)} {ls : List Line} → NewNames seen ns → AllSpelled ls → AllSpelled (map name-line ns ++ ls)
 names-spelled names.NewNames.none s = s
@@ -115,4 +121,5 @@ within-spelled {d} w =
     (header {e = d .edition} {i = d .inputs} {g = length (d .gates)} {o = length (d .outputs)}
     (omega (arith, edition-few (w .edition))) (omega (arith, w .inputs)) (omega (arith, w .gates)) (omega (arith, w .outputs)))
     (names-spelled (w .names)
-    (gates-spelled (w .downward) (omega (arith, w .inputs, w .gates)) (outputs-spelled (w .below) (omega (arith, w .inputs, w .gates)))))
+    (gates-spelled (w .downward) (omega (arith, w .inputs, w .gates))
+    (outputs-spelled (w .below) (omega (arith, w .inputs, w .gates)) (constraints-spelled (w .constraint-below) (omega (arith, w .inputs, w .gates))))))

@@ -196,9 +196,9 @@ module _ {d e : Netlist} (m : Matched d e) where
   gates-downward (netlist.Downward.gate {v = v} {g = g} p q w) h =
       netlist.Downward.gate (reference-below (g .p) v h p) (reference-below (g .q) v h q) (gates-downward w (omega arith))
 
-  outputs-below : (v : ℕ) {rs : List ℕ} → 1 + e .inputs ≤ v → AllBelow (2 * v) rs → AllBelow (2 * v) (map (referenceFor d e) rs)
-  outputs-below v h netlist.AllBelow.none = netlist.AllBelow.none
-  outputs-below v h (netlist.AllBelow.next {r = r} l b) = netlist.AllBelow.next (reference-below r v h l) (outputs-below v h b)
+  references-below : (v : ℕ) {rs : List ℕ} → 1 + e .inputs ≤ v → AllBelow (2 * v) rs → AllBelow (2 * v) (map (referenceFor d e) rs)
+  references-below v h netlist.AllBelow.none = netlist.AllBelow.none
+  references-below v h (netlist.AllBelow.next {r = r} l b) = netlist.AllBelow.next (reference-below r v h l) (references-below v h b)
 
   -- The file with its inputs in the first file's order keeps the limits.
   pub paired-within : Within (paired d e)
@@ -216,7 +216,11 @@ module _ {d e : Netlist} (m : Matched d e) where
         downward = gates-downward (m .right .downward) (omega arith);
         below =
             rw (length-map (e .gates) (gateFor d e))
-            (outputs-below (1 + e .inputs + length (e .gates)) (omega arith) (m .right .below));
+            (references-below (1 + e .inputs + length (e .gates)) (omega arith) (m .right .below));
+        constraints = omega (arith, m .right .constraints, length-map (e .constraints) (referenceFor d e));
+        constraint-below =
+            rw (length-map (e .gates) (gateFor d e))
+            (references-below (1 + e .inputs + length (e .gates)) (omega arith) (m .right .constraint-below));
       }
 
 -- It has as many outputs and ANDs.

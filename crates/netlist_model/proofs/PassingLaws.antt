@@ -1,13 +1,14 @@
 -- What holds while a file is passed line by line: what is ahead decides the answer.
 use Prim.Native.Nat.{_*_, _+_, _<_, _≤_, suc, ℕ}
+use Rattle.netlist_model.proofs.CheckLaws.{due-few}
 use Rattle.netlist_model.proofs.FrontLaws.{front-names, place-rises}
 use Rattle.netlist_model.proofs.LineLaws.{formed-ended, lines-ahead, lines-end}
 use Rattle.netlist_model.proofs.NameLaws.{count-few}
-use Rattle.netlist_model.proofs.StepLaws.{andThen, ands-few, check-step, gate-cases, gate-first, header-again, header-cases, malformed-refused, name-cases, name-first, output-cases, output-first}
+use Rattle.netlist_model.proofs.StepLaws.{andThen, ands-few, check-step, constraint-first, constraint-step, gate-cases, gate-first, header-again, header-cases, malformed-refused, name-cases, name-first, output-first, output-step}
 use Rattle.netlist_model.specs.Check.{afterName, andsOf, checkFile, checkFrom, finish, nameGiven, reached, refused}
 use Rattle.netlist_model.specs.Limits.{maxGates}
 use Rattle.netlist_model.specs.code.Passing.{Counted, Held, Names, NamesThere, Passed, SeenThere, StartInside, at-first, at-later, firstLine, frontNames, lineDue, placeAfter, seenBy, stepOf}
-use Rattle.netlist_model.specs.Records.{Line, fileLines, gate-line, header-line, kindOf, malformed-line, name-line, output-line}
+use Rattle.netlist_model.specs.Records.{Line, constraint-line, fileLines, gate-line, header-line, kindOf, malformed-line, name-line, output-line}
 use Rattle.netlist_model.specs.declared.Body.{Body}
 use Rattle.netlist_model.specs.declared.Due.the-variants.{First, Later}
 use Rattle.netlist_model.specs.declared.Due.{Due}
@@ -27,10 +28,10 @@ pub held-later : {b : Body} → Held (Later b) → Counted b
 held-later (at-later h) = h
 
 -- What is due has a number that any line number's type holds.
-pub line-few : {due : Due} → Held due → lineDue due ≤ 2 + maxInputs + maxGates + maxOutputs
+pub line-few : {due : Due} → Held due → lineDue due ≤ 3 + maxInputs + maxGates + maxOutputs
 unfolding lineDue
 line-few at-first = omega arith
-line-few (at-later h) = omega (arith, h .names, h .name, h .gates, h .outputs, h .gate, h .output)
+line-few (at-later h) = omega (arith, h .names, h .name, h .gates, h .outputs, h .gate, h .output, h .constraints, h .constraint)
 
 -- The lines before a place: none before line 1.
 abbrev pub PassedBy : List ℕ → ℕ → Due → Type 0
@@ -82,9 +83,11 @@ module _ (file : List ℕ) (at end : ℕ) where
               names = omega (arith, count-few e i, l .inputs);
               gates = l .gates;
               outputs = l .outputs;
+              constraints = due-few role;
               name = omega arith;
               gate = omega arith;
               output = omega arith;
+              constraint = omega arith;
               ands = omega arith;
             });
         number = refl;
@@ -103,29 +106,33 @@ module _ (file : List ℕ) (at end : ℕ) where
 
   module _ {b : Body} (h : Counted b) (p : Passed file at b) where
     number : ℕ
-    number = 2 + b .name + b .gate + b .output
+    number = 2 + b .name + b .gate + b .output + b .constraint
 
     -- What was read keeps its limits.
-    counted : (name gate output ands : ℕ) → name ≤ b .names → gate ≤ b .gates → output ≤ b .outputs → ands ≤ 3 * gate → Counted (reached b name gate output ands)
-    counted name gate output ands l k j a =
+    counted : (name gate output constraint ands reference : ℕ) → name ≤ b .names → gate ≤ b .gates → output ≤ b .outputs → constraint ≤ b .constraints
+        → ands ≤ 3 * gate → Counted (reached b name gate output constraint ands reference)
+    counted name gate output constraint ands reference l k j t a =
         record {
           inputs = h .inputs;
           names = h .names;
           gates = h .gates;
           outputs = h .outputs;
+          constraints = h .constraints;
           name = l;
           gate = k;
           output = j;
+          constraint = t;
           ands = a;
         }
 
     -- A line after the last name is passed.
-    other-kept : {l : Line} (gate output ands : ℕ) → Passes l → b .name ≡ b .names → gate + output ≡ b .gate + b .output + 1 → gate ≤ b .gates
-        → output ≤ b .outputs → ands ≤ 3 * gate → Kept file end number (frontNames (b .name) file ++ []) (Later (reached b (b .name) gate output ands))
+    other-kept : {l : Line} (gate output constraint ands reference : ℕ) → Passes l → b .name ≡ b .names
+        → gate + output + constraint ≡ b .gate + b .output + b .constraint + 1 → gate ≤ b .gates → output ≤ b .outputs → constraint ≤ b .constraints
+        → ands ≤ 3 * gate → Kept file end number (frontNames (b .name) file ++ []) (Later (reached b (b .name) gate output constraint ands reference))
     unfolding lineDue number
-    other-kept {l} gate output ands lines last one g o a =
+    other-kept {l} gate output constraint ands reference lines last one g o t a =
         record {
-          held = at-later (counted (b .name) gate output ands (h .name) g o a);
+          held = at-later (counted (b .name) gate output constraint ands reference (h .name) g o t a);
           number = omega arith;
           passed =
               record {
@@ -166,7 +173,7 @@ module _ (file : List ℕ) (at end : ℕ) where
         } in
         subst (Kept file end number (frontNames (b .name) file ++ name ∷ [])) (next-is f)
         (record {
-          held = at-later (counted (b .name + 1) (b .gate) (b .output) (b .ands) (omega arith) (h .gate) (h .output) (h .ands));
+          held = at-later (counted (b .name + 1) (b .gate) (b .output) (b .constraint) (b .ands) (b .reference) (omega arith) (h .gate) (h .output) (h .constraint) (h .ands));
           number = omega arith;
           passed = one;
           seen-names = ap (λ (ns : List (List ℕ)). ns ++ name ∷ []) (names-seen p) ∙ sym (names-seen one);
@@ -179,17 +186,28 @@ module _ (file : List ℕ) (at end : ℕ) where
         (λ s. s ≡ Next next → Kept file end number (frontNames (b .name) file ++ []) next) (λ k. refusal) (λ k l. refusal)
         (λ k l f.
         subst (Kept file end number (frontNames (b .name) file ++ [])) (next-is f)
-        (other-kept (b .gate + 1) (b .output) (b .ands + andsOf op) lines (k .names) (omega arith) (omega (arith, k .room)) (h .output)
-        (omega (arith, h .ands, ands-few op))))
+        (other-kept (b .gate + 1) (b .output) (b .constraint) (b .ands + andsOf op) (b .reference) lines (k .names) (omega arith) (omega (arith, k .room))
+        (h .output) (h .constraint) (omega (arith, h .ands, ands-few op))))
 
     output-kept : (r : ℕ) {next : Due} → Passes (output-line r) → stepOf (frontNames (b .name) file) (Later b) (output-line r) ≡ Next next
         → Kept file end number (frontNames (b .name) file ++ []) next
     output-kept r {next} lines =
-        output-cases (frontNames (b .name) file) b r
+        output-step (frontNames (b .name) file) b r .cases
         (λ s. s ≡ Next next → Kept file end number (frontNames (b .name) file ++ []) next) (λ k. refusal) (λ k l. refusal)
         (λ k l f.
         subst (Kept file end number (frontNames (b .name) file ++ [])) (next-is f)
-        (other-kept (b .gate) (b .output + 1) (b .ands) lines (k .names) (omega arith) (h .gate) (omega (arith, k .room)) (h .ands)))
+        (other-kept (b .gate) (b .output + 1) (b .constraint) (b .ands) (b .reference) lines (k .names) (omega arith) (h .gate) (omega (arith, k .room))
+        (h .constraint) (h .ands)))
+
+    constraint-kept : (r : ℕ) {next : Due} → Passes (constraint-line r) → stepOf (frontNames (b .name) file) (Later b) (constraint-line r) ≡ Next next
+        → Kept file end number (frontNames (b .name) file ++ []) next
+    constraint-kept r {next} lines =
+        constraint-step (frontNames (b .name) file) b r .cases
+        (λ s. s ≡ Next next → Kept file end number (frontNames (b .name) file ++ []) next) (λ k. refusal) (λ k l. refusal)
+        (λ k l f.
+        subst (Kept file end number (frontNames (b .name) file ++ [])) (next-is f)
+        (other-kept (b .gate) (b .output) (b .constraint + 1) (b .ands) r lines (k .names) (omega arith) (h .gate) (h .output) (omega (arith, k .room))
+        (h .ands)))
 
   keeps : {due next : Due} (l : Line) → Held due → PassedBy file at due → Passes l → stepOf (seenBy file due) due l ≡ Next next
       → Kept file end (lineDue due) (seenBy file due ++ nameGiven l) next
@@ -198,12 +216,14 @@ module _ (file : List ℕ) (at end : ℕ) where
   keeps {due = First role} (name-line name) at-first p lines e = refusal (sym (name-first [] role name) ∙ e)
   keeps {due = First role} (gate-line op q r) at-first p lines e = refusal (sym (gate-first [] role op q r) ∙ e)
   keeps {due = First role} (output-line r) at-first p lines e = refusal (sym (output-first [] role r) ∙ e)
+  keeps {due = First role} (constraint-line r) at-first p lines e = refusal (sym (constraint-first [] role r) ∙ e)
   keeps {due = First role} (header-line e i g o) at-first p lines f = header-kept role e i g o p lines f
   keeps {due = Later b} malformed-line (at-later h) p lines e = refusal (sym (malformed-refused (frontNames (b .name) file) (Later b)) ∙ e)
   keeps {due = Later b} (header-line e i g o) (at-later h) p lines f = refusal (sym (header-again (frontNames (b .name) file) b e i g o) ∙ f)
   keeps {due = Later b} (name-line name) (at-later h) p lines e = name-kept h p name lines e
   keeps {due = Later b} (gate-line op q r) (at-later h) p lines e = gate-kept h p op q r lines e
   keeps {due = Later b} (output-line r) (at-later h) p lines e = output-kept h p r lines e
+  keeps {due = Later b} (constraint-line r) (at-later h) p lines e = constraint-kept h p r lines e
 
 -- The line that starts at a place is due, and from there on the check gives the file's answer.
 pub record Ahead (role : Role) (file : List ℕ) (at line : ℕ) (due : Due) : Type 0 where
@@ -273,6 +293,7 @@ module _ {role : Role} {file : List ℕ} {at line : ℕ} {due : Due} (a : Ahead 
           go (name-line x) m f = let z : _≡_ {A = ℕ} 0 1 = cc in omega arith
           go (gate-line op p q) m f = let z : _≡_ {A = ℕ} 0 1 = cc in omega arith
           go (output-line r) m f = let z : _≡_ {A = ℕ} 0 1 = cc in omega arith
+          go (constraint-line r) m f = let z : _≡_ {A = ℕ} 0 1 = cc in omega arith
 
       -- The line is passed.
       pub ahead-next : Ahead role file (at + length (upTo 10 (drop at file)) + 1) (line + 1) next

@@ -2,12 +2,12 @@
 use Prim.Native.Nat.{_+_, _<_, _^_, suc, zero, ℕ}
 use Rattle.netlist_model.specs.Limits.{maxName}
 use Rattle.netlist_model.specs.Netlist.{fieldsOf}
-use Rattle.netlist_model.specs.Records.{Line, fieldsRecord, gate-line, gateIn, gateOf, header-line, headerIn, headerOf, kindOf, laidOut, letterOrDigit?, lettersOrDigits?, lineWith, name-line, name?, nameIn, operationBytes, operationOf, output-line, outputIn, outputOf}
+use Rattle.netlist_model.specs.Records.{Line, constraint-line, constraintIn, constraintOf, fieldsRecord, gate-line, gateIn, gateOf, header-line, headerIn, headerOf, kindOf, laidOut, letterOrDigit?, lettersOrDigits?, lineWith, name-line, name?, nameIn, operationBytes, operationOf, output-line, outputIn, outputOf}
 use Rattle.netlist_model.specs.declared.Operation.the-variants.{And, Or, Xor}
 use Rattle.netlist_model.specs.declared.Operation.{Operation}
 use Rattle.netlist_model.specs.declared.OperationField.the-variants.{Named, Unknown}
 use Rattle.netlist_model.specs.declared.OperationField.{OperationField}
-use Rattle.netlist_model.specs.declared.Record.the-variants.{Gate, Header, Malformed, Name, Output}
+use Rattle.netlist_model.specs.declared.Record.the-variants.{Constraint, Gate, Header, Malformed, Name, Output}
 use Rattle.netlist_model.specs.declared.Record.{Record}
 use Rattle.text.proofs.BytesLaws.{same-iff}
 use Rattle.text.proofs.NumeralLaws.{decimal-lacks, read-decimal, value-decimal}
@@ -33,6 +33,7 @@ pub data Spelled : Line → Type 0 where
   named : {s : List ℕ} → name? s ≡ true → Spelled (name-line s)
   gate : {op : Operation} {p q : ℕ} → p < 10 ^ MAX-DIGITS → q < 10 ^ MAX-DIGITS → Spelled (gate-line op p q)
   output : {r : ℕ} → r < 10 ^ MAX-DIGITS → Spelled (output-line r)
+  constraint : {r : ℕ} → r < 10 ^ MAX-DIGITS → Spelled (constraint-line r)
 
 -- The record of a line with some fields.
 pub kind-with : (r : Record) (fs : List (List ℕ)) → kindOf (lineWith r fs) ≡ r
@@ -40,6 +41,7 @@ kind-with (Header e i g o) fs = refl
 kind-with Name fs = refl
 kind-with (Gate op p q) fs = refl
 kind-with (Output r) fs = refl
+kind-with (Constraint r) fs = refl
 kind-with Malformed fs = refl
 
 operation-named : (op : Operation) → operationOf (operationBytes op) ≡ Named op
@@ -56,6 +58,7 @@ spelled-read (header {e = e} {i = i} {g = g} {o = o} he hi hg ho) =
 spelled-read (named h) = rw h refl
 spelled-read (gate {op = op} {p = p} {q = q} hp hq) = rw (operation-named op, read-decimal p hp, read-decimal q hq) refl
 spelled-read (output {r = r} h) = rw (read-decimal r h) refl
+spelled-read (constraint {r = r} h) = rw (read-decimal r h) refl
 
 -- It has fields.
 pub fields-some : {l : Line} → Spelled l → 0 < length (fieldsOf l)
@@ -64,6 +67,7 @@ fields-some (header he hi hg ho) = omega arith
 fields-some (named h) = omega arith
 fields-some (gate hp hq) = omega arith
 fields-some (output h) = omega arith
+fields-some (constraint h) = omega arith
 
 -- The two bytes that part fields and lines.
 pub data Separator : ℕ → Type 0 where
@@ -110,6 +114,8 @@ fields-lack line-end (gate {op = op} {p = p} {q = q} hp hq) =
     rw (operation-lacks line-end op, decimal-lacks 10 p refl, decimal-lacks 10 q refl) refl
 fields-lack tab (output {r = r} h) = rw (decimal-lacks 9 r refl) refl
 fields-lack line-end (output {r = r} h) = rw (decimal-lacks 10 r refl) refl
+fields-lack tab (constraint {r = r} h) = rw (decimal-lacks 9 r refl) refl
+fields-lack line-end (constraint {r = r} h) = rw (decimal-lacks 10 r refl) refl
 
 -- Fields that are laid out have the number asked for.
 pub laid-out-count : (n : ℕ) (letter : List ℕ) (fs : List (List ℕ)) → laidOut n letter fs ≡ true → length fs ≡ n
@@ -216,6 +222,15 @@ module _ (fs : List (List ℕ)) where
       (λ r hr lr n. record { fields = all ∙ rw (letter, hr) refl; spelled = output lr })
       malformed
 
+  constraint-told : laidOut 2 (67 ∷ []) fs ≡ true → Told (constraintIn fs)
+  unfolding Told elements fieldsOf
+  constraint-told h =
+      let all : fs ≡ elements 2 0 fs = elements-all 2 0 fs (laid-out-count 2 (67 ∷ []) fs h) in
+      let letter = laid-out-letter 2 (67 ∷ []) fs h in
+      numeral-cases (getD fs 1 []) (λ v. Told (constraintOf v))
+      (λ r hr lr n. record { fields = all ∙ rw (letter, hr) refl; spelled = constraint lr })
+      malformed
+
   -- Whatever is read as a record is the fields of its line.
   pub read-written : (fieldsRecord fs ≡ Malformed → ⊥) → Written fs (lineWith (fieldsRecord fs) fs)
   unfolding Told fieldsRecord
@@ -223,7 +238,8 @@ module _ (fs : List (List ℕ)) where
       cond-cases Told (laidOut 5 (78 ∷ []) fs) header-told
       (λ h. cond-cases Told (laidOut 2 (73 ∷ []) fs) name-told
       (λ i. cond-cases Told (laidOut 4 (71 ∷ []) fs) gate-told
-      (λ k. cond-cases Told (laidOut 2 (79 ∷ []) fs) output-told (λ l. malformed))))
+      (λ k. cond-cases Told (laidOut 2 (79 ∷ []) fs) output-told
+      (λ l. cond-cases Told (laidOut 2 (67 ∷ []) fs) constraint-told (λ m. malformed)))))
 
 -- The fields of a name's line are two.
 pub name-fields : (fs : List (List ℕ)) → fieldsRecord fs ≡ Name → length fs ≡ 2

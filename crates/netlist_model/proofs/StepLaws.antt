@@ -1,10 +1,10 @@
 -- What one line comes to, case by case, and what the end of a file comes to.
 use Prim.Native.Nat.{_*_, _+_, _<_, _≤_, ℕ}
 use Rattle.netlist_model.proofs.NameLaws.{among-place, place-among}
-use Rattle.netlist_model.specs.Check.{Answer, accepted, afterGate, afterHeader, afterName, afterOutput, andsOf, below?, checkFrom, countsOf, due?, dueAfter, finish, formed?, header?, known?, limited?, lineTests, more?, nameGiven, refused, suits?, twice?}
+use Rattle.netlist_model.specs.Check.{Answer, accepted, afterConstraint, afterGate, afterHeader, afterName, afterOutput, andsOf, below?, checkFrom, countsOf, due?, dueAfter, finish, formed?, header?, known?, limited?, lineTests, more?, nameGiven, refused, suits?, twice?}
 use Rattle.netlist_model.specs.Limits.{byName, byPlace, maxGates}
 use Rattle.netlist_model.specs.Names.{Among, among?, placeOf}
-use Rattle.netlist_model.specs.Records.{Line, gate-line, header-line, kindOf, lineWith, malformed-line, name-line, output-line}
+use Rattle.netlist_model.specs.Records.{Line, constraint-line, gate-line, header-line, kindOf, lineWith, malformed-line, name-line, output-line}
 use Rattle.netlist_model.specs.code.Passing.{stepOf}
 use Rattle.netlist_model.specs.declared.Body.{Body}
 use Rattle.netlist_model.specs.declared.Due.the-variants.{First, Later}
@@ -13,7 +13,7 @@ use Rattle.netlist_model.specs.declared.Stepped.the-variants.{Next, Refu
 use Rattle.netlist_model.specs.declared.Stepped.{Stepped}
 use Rattle.netlist_model.specs.declared.Operation.the-variants.{And, Or, Xor}
 use Rattle.netlist_model.specs.declared.Operation.{Operation}
-use Rattle.netlist_model.specs.declared.Record.the-variants.{Gate, Header, Malformed, Name, Output}
+use Rattle.netlist_model.specs.declared.Record.the-variants.{Constraint, Gate, Header, Malformed, Name, Output}
 use Rattle.netlist_model.specs.declared.Record.{Record}
 use Rattle.netlist_model.specs.declared.Role.{Role}
 use Rattle.table.specs.Limits.{maxInputs, maxOutputs}
@@ -63,7 +63,7 @@ module _ (seen : List (List ℕ)) where
   malformed-refused (First role) = refl
   malformed-refused (Later b) = refl
 
-  -- A name, a gate or an output in line 1.
+  -- A name, a gate, an output or a constraint in line 1.
   pub name-first : (role : Role) (name : List ℕ) → stepOf seen (First role) (name-line name) ≡ Refuse 5
   unfolding stepOf firstRefusal formed? header? known? limited?
   name-first role name = refl
@@ -76,18 +76,23 @@ module _ (seen : List (List ℕ)) where
   unfolding stepOf firstRefusal formed? header? known? limited?
   output-first role r = refl
 
+  pub constraint-first : (role : Role) (r : ℕ) → stepOf seen (First role) (constraint-line r) ≡ Refuse 5
+  unfolding stepOf firstRefusal formed? header? known? limited?
+  constraint-first role r = refl
+
   -- Line 1 again.
   pub header-again : (b : Body) (e i g o : ℕ) → stepOf seen (Later b) (header-line e i g o) ≡ Refuse 5
   unfolding stepOf firstRefusal formed? due? below? twice?
   header-again b e i g o = refl
 
--- In line 1, and in the lines of gates and outputs, the names in earlier lines decide nothing.
+-- In line 1, and in the lines of gates, outputs and constraints, the names in earlier lines decide nothing.
 pub first-unseen : (role : Role) (l : Line) → stepOf [] (First role) l ≡ stepOf [] (First role) (lineWith (kindOf l) [])
 unfolding stepOf firstRefusal formed? header? known? limited? dueAfter
 first-unseen role (header-line e i g o) = refl
 first-unseen role (name-line name) = refl
 first-unseen role (gate-line op p q) = refl
 first-unseen role (output-line r) = refl
+first-unseen role (constraint-line r) = refl
 first-unseen role malformed-line = refl
 
 module _ (seen : List (List ℕ)) (b : Body) where
@@ -99,12 +104,17 @@ module _ (seen : List (List ℕ)) (b : Body) where
   unfolding stepOf firstRefusal formed? due? below? twice? dueAfter
   output-unseen r = refl
 
+  pub constraint-unseen : (r : ℕ) → stepOf seen (Later b) (constraint-line r) ≡ stepOf [] (Later b) (constraint-line r)
+  unfolding stepOf firstRefusal formed? due? below? twice? dueAfter
+  constraint-unseen r = refl
+
 -- A record that is no name's.
 abbrev pub NoName : Record → Type 0
 NoName (Header e i g o) = Unit
 NoName Name = ⊥
 NoName (Gate op p q) = Unit
 NoName (Output r) = Unit
+NoName (Constraint r) = Unit
 NoName Malformed = Unit
 
 -- A line that is no name's is told by its record.
@@ -113,6 +123,7 @@ line-told (header-line e i g o) {r} h k = ap (λ (x : Record). lineWith x []) h
 line-told (name-line name) {r} h k = absurd (rw (← h) at k)
 line-told (gate-line op p q) {r} h k = ap (λ (x : Record). lineWith x []) h
 line-told (output-line x) {r} h k = ap (λ (x : Record). lineWith x []) h
+line-told (constraint-line x) {r} h k = ap (λ (x : Record). lineWith x []) h
 line-told malformed-line {r} h k = ap (λ (x : Record). lineWith x []) h
 
 -- The counts of line 1 within their limits.
@@ -151,7 +162,7 @@ module _ (seen : List (List ℕ)) (role : Role) (e i g o : ℕ) where
       (P : Stepped → Type 0)
       → ((Known role e → ⊥) → P (Refuse 3))
       → (Known role e → (Limited i g o → ⊥) → P (Refuse 4))
-      → (Known role e → Limited i g o → P (Next (Later (afterHeader e i g o))))
+      → (Known role e → Limited i g o → P (Next (Later (afterHeader role e i g o))))
       → P (stepOf seen (First role) (header-line e i g o))
   unfolding stepOf firstRefusal formed? header? known? limited? dueAfter
   header-cases P other beyond next = go ((eqb e byPlace || eqb e byName) && suits? role e) (a && b && c && d) refl refl
@@ -169,7 +180,7 @@ module _ (seen : List (List ℕ)) (role : Role) (e i g o : ℕ) where
       d = leb o maxOutputs
 
       go : (x y : Bool) → ((eqb e byPlace || eqb e byName) && suits? role e) ≡ x → (a && b && c && d) ≡ y
-          → P (cond (eqb (cond (not x) 3 (cond (not y) 4 0)) 0) (Next (Later (afterHeader e i g o))) (Refuse (cond (not x) 3 (cond (not y) 4 0))))
+          → P (cond (eqb (cond (not x) 3 (cond (not y) 4 0)) 0) (Next (Later (afterHeader role e i g o))) (Refuse (cond (not x) 3 (cond (not y) 4 0))))
       go false y h k = other (unknown-is role e h)
       go true false h k =
           beyond (known-is role e h)
@@ -195,8 +206,8 @@ module _ (seen : List (List ℕ)) (role : Role) (e i g o : ℕ) where
   header-beyond h k = header-cases (λ s. s ≡ Refuse 4) (λ l. absurd (l h)) (λ l m. refl) (λ l m. absurd (k m))
 
   -- A good line 1.
-  pub header-next : Known role e → Limited i g o → stepOf seen (First role) (header-line e i g o) ≡ Next (Later (afterHeader e i g o))
-  header-next h k = header-cases (λ s. s ≡ Next (Later (afterHeader e i g o))) (λ l. absurd (l h)) (λ l m. absurd (m k)) (λ l m. refl)
+  pub header-next : Known role e → Limited i g o → stepOf seen (First role) (header-line e i g o) ≡ Next (Later (afterHeader role e i g o))
+  header-next h k = header-cases (λ s. s ≡ Next (Later (afterHeader role e i g o))) (λ l. absurd (l h)) (λ l m. absurd (m k)) (λ l m. refl)
 
 module _ (seen : List (List ℕ)) (b : Body) (name : List ℕ) where
   -- The same of a name's line.
@@ -285,61 +296,101 @@ module _ (seen : List (List ℕ)) (b : Body) (op : Operation) (p q : ℕ) where
   pub gate-next : GateDue b → GateFits b p q → stepOf seen (Later b) (gate-line op p q) ≡ Next (Later (afterGate op b))
   gate-next h k = gate-cases (λ s. s ≡ Next (Later (afterGate op b))) (λ l. absurd (l h)) (λ l m. absurd (m k)) (λ l m. refl)
 
+-- What a line with one reference comes to: 5 where it is not due, 6 where the reference is not below a bound, else what is due next.
+pub record ReferenceLine (D : Type 0) (n r : ℕ) (due : Due) (s : Stepped) : Type 1 where
+  pub cases : (P : Stepped → Type 0) → ((D → ⊥) → P (Refuse 5)) → (D → n ≤ r → P (Refuse 6)) → (D → r < n → P (Next due)) → P s
+
+-- So it is by its two tests, where the first says whether it is due.
+reference-line : {D : Type 0} (n r : ℕ) (due : Due) (x : Bool) → (x ≡ true → D) → (D → x ≡ true)
+    → ReferenceLine D n r due
+    (cond (eqb (cond (not x) 5 (cond (not (ltb r n)) 6 0)) 0) (Next due) (Refuse (cond (not x) 5 (cond (not (ltb r n)) 6 0))))
+reference-line {D} n r due x holds told = record { cases = λ P extra beyond next. go P extra beyond next x (ltb r n) refl refl }
+  where
+    go : (P : Stepped → Type 0) → ((D → ⊥) → P (Refuse 5)) → (D → n ≤ r → P (Refuse 6)) → (D → r < n → P (Next due)) → (y z : Bool) → x ≡ y → ltb r n ≡ z
+        → P (cond (eqb (cond (not y) 5 (cond (not z) 6 0)) 0) (Next due) (Refuse (cond (not y) 5 (cond (not z) 6 0))))
+    go P extra beyond next false z h k = extra (λ d. clash (told d) h)
+    go P extra beyond next true false h k = beyond (holds h) (ltb-false _ _ k)
+    go P extra beyond next true true h k = next (holds h) (ltb-true _ _ k)
+
+module _ {D : Type 0} {n r : ℕ} {due : Due} {s : Stepped} (l : ReferenceLine D n r due s) where
+  -- One where none is due.
+  pub reference-extra : (D → ⊥) → s ≡ Refuse 5
+  reference-extra h = l .cases (λ x. x ≡ Refuse 5) (λ k. refl) (λ k m. absurd (h k)) (λ k m. absurd (h k))
+
+  -- A reference that is not below the bound.
+  pub reference-beyond : D → n ≤ r → s ≡ Refuse 6
+  reference-beyond h k = l .cases (λ x. x ≡ Refuse 6) (λ m. absurd (m h)) (λ m o. refl) (λ m o. absurd (omega arith))
+
+  -- A good line.
+  pub reference-next : D → r < n → s ≡ Next due
+  reference-next h k = l .cases (λ x. x ≡ Next due) (λ m. absurd (m h)) (λ m o. absurd (omega arith)) (λ m o. refl)
+
 -- An output is due where the names and gates are read and outputs are left.
 pub record OutputDue (b : Body) : Type 0 where
   pub names : b .name ≡ b .names
   pub gates : b .gate ≡ b .gates
   pub room : b .output < b .outputs
 
-module _ (seen : List (List ℕ)) (b : Body) (r : ℕ) where
-  -- The same of an output line.
-  pub output-cases :
-      (P : Stepped → Type 0)
-      → ((OutputDue b → ⊥) → P (Refuse 5))
-      → (OutputDue b → 2 * (1 + b .inputs + b .gates) ≤ r → P (Refuse 6))
-      → (OutputDue b → r < 2 * (1 + b .inputs + b .gates) → P (Next (Later (afterOutput b))))
-      → P (stepOf seen (Later b) (output-line r))
-  unfolding stepOf firstRefusal formed? due? below? twice? dueAfter
-  output-cases P extra beyond next = go (named && room && more) (ltb r n) refl refl
-    where
-      n : ℕ
-      n = 2 * (1 + b .inputs + b .gates)
+-- An output's line.
+pub output-step : (seen : List (List ℕ)) (b : Body) (r : ℕ)
+    → ReferenceLine (OutputDue b) (2 * (1 + b .inputs + b .gates)) r (Later (afterOutput b)) (stepOf seen (Later b) (output-line r))
+unfolding stepOf firstRefusal formed? due? below? twice? dueAfter
+output-step seen b r =
+    reference-line (2 * (1 + b .inputs + b .gates)) r (Later (afterOutput b)) (named && drawn && more) due
+    (λ f. rw (eq-eqb _ _ (f .names), eq-eqb _ _ (f .gates)) (lt-ltb _ _ (f .room)))
+  where
+    named : Bool
+    named = eqb (b .name) (b .names)
 
-      named : Bool
-      named = eqb (b .name) (b .names)
+    drawn : Bool
+    drawn = eqb (b .gate) (b .gates)
 
-      room : Bool
-      room = eqb (b .gate) (b .gates)
+    more : Bool
+    more = ltb (b .output) (b .outputs)
 
-      more : Bool
-      more = ltb (b .output) (b .outputs)
+    due : (named && drawn && more) ≡ true → OutputDue b
+    due h =
+        let both = and-left (named && drawn) more h in
+        record {
+          names = eqb-true _ _ (and-left named drawn both);
+          gates = eqb-true _ _ (and-right named drawn both);
+          room = ltb-true _ _ (and-right (named && drawn) more h);
+        }
 
-      due : (named && room && more) ≡ true → OutputDue b
-      due h =
-          let both = and-left (named && room) more h in
-          record {
-            names = eqb-true _ _ (and-left named room both);
-            gates = eqb-true _ _ (and-right named room both);
-            room = ltb-true _ _ (and-right (named && room) more h);
-          }
+-- A constraint is due where the names, gates and outputs are read and one may come.
+pub record ConstraintDue (b : Body) : Type 0 where
+  pub names : b .name ≡ b .names
+  pub gates : b .gate ≡ b .gates
+  pub outputs : b .output ≡ b .outputs
+  pub room : b .constraint < b .constraints
 
-      go : (x y : Bool) → (named && room && more) ≡ x → ltb r n ≡ y
-          → P (cond (eqb (cond (not x) 5 (cond (not y) 6 0)) 0) (Next (Later (afterOutput b))) (Refuse (cond (not x) 5 (cond (not y) 6 0))))
-      go false y h k = extra (λ f. clash (rw (eq-eqb _ _ (f .names), eq-eqb _ _ (f .gates)) (lt-ltb _ _ (f .room))) h)
-      go true false h k = beyond (due h) (ltb-false _ _ k)
-      go true true h k = next (due h) (ltb-true _ _ k)
+-- A constraint's line.
+pub constraint-step : (seen : List (List ℕ)) (b : Body) (r : ℕ)
+    → ReferenceLine (ConstraintDue b) (2 * (1 + b .inputs + b .gates)) r (Later (afterConstraint r b)) (stepOf seen (Later b) (constraint-line r))
+unfolding stepOf firstRefusal formed? due? below? twice? dueAfter
+constraint-step seen b r =
+    reference-line (2 * (1 + b .inputs + b .gates)) r (Later (afterConstraint r b)) (drawn && all && more) due
+    (λ f. rw (eq-eqb _ _ (f .names), eq-eqb _ _ (f .gates), eq-eqb _ _ (f .outputs)) (lt-ltb _ _ (f .room)))
+  where
+    drawn : Bool
+    drawn = eqb (b .name) (b .names) && eqb (b .gate) (b .gates)
 
-  -- An output where none is due.
-  pub output-extra : (OutputDue b → ⊥) → stepOf seen (Later b) (output-line r) ≡ Refuse 5
-  output-extra h = output-cases (λ s. s ≡ Refuse 5) (λ k. refl) (λ k l. absurd (h k)) (λ k l. absurd (h k))
+    all : Bool
+    all = eqb (b .output) (b .outputs)
 
-  -- A reference that is not below twice the number of vertices.
-  pub output-beyond : OutputDue b → 2 * (1 + b .inputs + b .gates) ≤ r → stepOf seen (Later b) (output-line r) ≡ Refuse 6
-  output-beyond h k = output-cases (λ s. s ≡ Refuse 6) (λ l. absurd (l h)) (λ l m. refl) (λ l m. absurd (omega arith))
+    more : Bool
+    more = ltb (b .constraint) (b .constraints)
 
-  -- A good output.
-  pub output-next : OutputDue b → r < 2 * (1 + b .inputs + b .gates) → stepOf seen (Later b) (output-line r) ≡ Next (Later (afterOutput b))
-  output-next h k = output-cases (λ s. s ≡ Next (Later (afterOutput b))) (λ l. absurd (l h)) (λ l m. absurd (omega arith)) (λ l m. refl)
+    due : (drawn && all && more) ≡ true → ConstraintDue b
+    due h =
+        let three = and-left (drawn && all) more h in
+        let both = and-left drawn all three in
+        record {
+          names = eqb-true _ _ (and-left (eqb (b .name) (b .names)) _ both);
+          gates = eqb-true _ _ (and-right (eqb (b .name) (b .names)) _ both);
+          outputs = eqb-true _ _ (and-right drawn all three);
+          room = ltb-true _ _ (and-right (drawn && all) more h);
+        }
 
 -- All that was due was there.
 pub record Done (b : Body) : Type 0 where

@@ -1,8 +1,8 @@
 -- The functions of a file's vertices, outputs and ANDs have the values that plain evaluation gives.
 use Prim.Native.Nat.{ℕ}
 use Rattle.netlist_model.proofs.MeaningLaws.{ands-length}
-use Rattle.netlist_model.specs.Meaning.{andCount, andResult, andsFrom, fileAndValues, fileAnds, fileFunction, fileFunctions, fileValue, fileValues, fromAnds, gateAnds, gateResult, operationFunction, operationValue, referenceFunction, referenceValue, vertexResults}
-use Rattle.netlist_model.specs.Netlist.{Gate, Netlist}
+use Rattle.netlist_model.specs.Meaning.{allowed?, andCount, andResult, andsFrom, constraintFunction, fileAndValues, fileAnds, fileFunction, fileFunctions, fileValue, fileValues, fromAnds, gateAnds, gateResult, operationFunction, operationValue, referenceFunction, referenceValue, vertexResults}
+use Rattle.netlist_model.specs.Netlist.{Gate, Netlist, constraintReference}
 use Rattle.netlist_model.specs.declared.Operation.the-variants.{And, Or, Xor}
 use Rattle.netlist_model.specs.declared.Operation.{Operation}
 use Rattle.table.proofs.FunctionLaws.{values-at, values-functions}
@@ -125,6 +125,13 @@ module _ (d : Netlist) (s : Setting) (h : length s ≡ d .inputs) where
   output-value k =
       reference-value (d .inputs) s (fileFunctions d) (getD (d .outputs) k 0)
       ∙ ap (λ (vs : List Bool). referenceValue vs (getD (d .outputs) k 0)) file-values
+
+  -- So does the constraint.
+  pub constraint-value : valueAt (constraintFunction d) s ≡ allowed? d s
+  unfolding constraintFunction allowed?
+  constraint-value =
+      reference-value (d .inputs) s (fileFunctions d) (constraintReference d)
+      ∙ ap (λ (vs : List Bool). referenceValue vs (constraintReference d)) file-values
 
   -- And the operands of every AND that the gates stand for.
   pub file-and-values : map (pairAt s) (fileAnds d) ≡ fileAndValues d s

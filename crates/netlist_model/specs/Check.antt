@@ -4,7 +4,7 @@ use Rattle.netlist_model.specs.Limits.{byName, byPlace, maxGates}
 use Rattle.netlist_model.specs.Names.{among?, nameCount}
 use Rattle.netlist_model.specs.Netlist as netlist
 use Rattle.netlist_model.specs.Netlist.{Netlist}
-use Rattle.netlist_model.specs.Records.{Line, fileLines, gate-line, header-line, kindOf, malformed-line, name-line, output-line, recordsIn}
+use Rattle.netlist_model.specs.Records.{Line, constraint-line, fileLines, gate-line, header-line, kindOf, malformed-line, name-line, output-line, recordsIn}
 use Rattle.netlist_model.specs.declared.Body.{Body}
 use Rattle.netlist_model.specs.declared.Checked.the-variants.{Accepted, Refused}
 use Rattle.netlist_model.specs.declared.Checked.{Checked}
@@ -13,7 +13,7 @@ use Rattle.netlist_model.specs.declared.Due.{Due}
 use Rattle.netlist_model.specs.declared.Summary.{Summary}
 use Rattle.netlist_model.specs.declared.Operation.the-variants.{And, Or, Xor}
 use Rattle.netlist_model.specs.declared.Operation.{Operation}
-use Rattle.netlist_model.specs.declared.Record.the-variants.{Gate, Header, Malformed, Name, Output}
+use Rattle.netlist_model.specs.declared.Record.the-variants.{Constraint, Gate, Header, Malformed, Name, Output}
 use Rattle.netlist_model.specs.declared.Record.{Record}
 use Rattle.netlist_model.specs.declared.Role.the-variants as role
 use Rattle.netlist_model.specs.declared.Role.the-variants.{Second}
@@ -30,13 +30,14 @@ andsOf And = 1
 andsOf Or = 1
 andsOf Xor = 3
 
--- "2. The line is not an N, I, G or O record of this layout or has no end byte.": whether it is one. (RULES 8.1)
+-- "2. The line is not an N, I, G, O or C record of this layout or has no end byte.": whether it is one. (RULES 8.1)
 unfoldable pub formed? : Record → Bool
 formed? Malformed = false
 formed? (Header e i g o) = true
 formed? Name = true
 formed? (Gate op p q) = true
 formed? (Output r) = true
+formed? (Constraint r) = true
 
 -- "5. The line is .. not of the kind due there": whether it is the header that is due in line 1. (RULES 8.1)
 unfoldable pub header? : Record → Bool
@@ -44,6 +45,7 @@ header? (Header e i g o) = true
 header? Name = false
 header? (Gate op p q) = false
 header? (Output r) = false
+header? (Constraint r) = false
 header? Malformed = false
 
 -- "or a second file of another edition": whether the edition is that of the first file. A first file may have either. (RULES 8.1)
@@ -57,6 +59,7 @@ known? role (Header e i g o) = (eqb e byPlace || eqb e byName) && suits? role e
 known? role Name = false
 known? role (Gate op p q) = false
 known? role (Output r) = false
+known? role (Constraint r) = false
 known? role Malformed = false
 
 -- "4. A count in line 1 is beyond its limit.": whether none is. (RULES 8.1)
@@ -65,6 +68,7 @@ limited? (Header e i g o) = leb i maxInputs && leb g maxGates && leb 1 o && leb 
 limited? Name = false
 limited? (Gate op p q) = false
 limited? (Output r) = false
+limited? (Constraint r) = false
 limited? Malformed = false
 
 -- "Within line 1 the order is 2, 5, 3, 4" (RULES 9.2)
@@ -77,19 +81,22 @@ firstTests role r =
     ∷ []
 
 -- "5. The line is .. extra, or not of the kind due there": whether it is a name's and names are left, a gate's and only gates and outputs
--- are, or an output's and only outputs are. (RULES 8.1)
+-- are, an output's and only outputs are, or a constraint's, where one may still come, and none of these are. (RULES 1.13, 8.1)
 unfoldable pub due? : Body → Record → Bool
 due? b Name = ltb (b .name) (b .names)
 due? b (Gate op p q) = eqb (b .name) (b .names) && ltb (b .gate) (b .gates)
 due? b (Output r) = eqb (b .name) (b .names) && eqb (b .gate) (b .gates) && ltb (b .output) (b .outputs)
+due? b (Constraint r) =
+    eqb (b .name) (b .names) && eqb (b .gate) (b .gates) && eqb (b .output) (b .outputs) && ltb (b .constraint) (b .constraints)
 due? b (Header e i g o) = false
 due? b Malformed = false
 
 -- "6. A reference is not below twice its gate's vertex number or, in an output, twice the number of vertices.": whether all are; a name's
--- line has none. (RULES 8.1)
+-- line has none. "refusals 6 and 11 cover r as they do an output" (RULES 1.13, 8.1)
 unfoldable pub below? : Body → Record → Bool
 below? b (Gate op p q) = ltb p (2 * (1 + b .inputs + b .gate)) && ltb q (2 * (1 + b .inputs + b .gate))
 below? b (Output r) = ltb r (2 * (1 + b .inputs + b .gates))
+below? b (Constraint r) = ltb r (2 * (1 + b .inputs + b .gates))
 below? b Name = true
 below? b (Header e i g o) = false
 below? b Malformed = false
@@ -100,6 +107,7 @@ twice? seen (name-line name) = among? name seen
 twice? seen (header-line e i g o) = false
 twice? seen (gate-line op p q) = false
 twice? seen (output-line r) = false
+twice? seen (constraint-line r) = false
 twice? seen malformed-line = false
 
 -- "within others 2, 5, 6"; 18 "at its line and after 5". No line has both references and a name. (RULES 9.2)
@@ -116,7 +124,7 @@ abbrev pub lineTests : List (List ℕ) → Due → Line → List (Test ℕ)
 lineTests seen (First role) l = firstTests role (kindOf l)
 lineTests seen (Later b) l = laterTests seen b l
 
--- "5. The line is missing .. (an empty file: line 1)": whether more lines are due. (RULES 8.1)
+-- "5. The line is missing .. (an empty file: line 1)": whether more lines are due. A constraint's never is. (RULES 8.1)
 unfoldable pub more? : Due → Bool
 more? (First role) = true
 more? (Later b) = not (eqb (b .name) (b .names) && eqb (b .gate) (b .gates) && eqb (b .output) (b .outputs))
@@ -125,56 +133,72 @@ more? (Later b) = not (eqb (b .name) (b .names) && eqb (b .gate) (b .gates) && e
 abbrev pub endTests : Due → List (Test ℕ)
 endTests due = record { answer = 5; applies = more? due } ∷ []
 
+-- "A first file may end with one line `C⇥r`": how many such lines may come. (RULES 1.13)
+abbrev pub constraintsDue : Role → ℕ
+constraintsDue role.First = 1
+constraintsDue (Second first) = 0
+
 -- What is due after line 1: its counts, and nothing read yet.
-abbrev pub afterHeader : ℕ → ℕ → ℕ → ℕ → Body
-afterHeader edition inputs gates outputs =
+abbrev pub afterHeader : Role → ℕ → ℕ → ℕ → ℕ → Body
+afterHeader role edition inputs gates outputs =
     record {
       edition = edition;
       inputs = inputs;
       names = nameCount edition inputs;
       gates = gates;
       outputs = outputs;
+      constraints = constraintsDue role;
       name = 0;
       gate = 0;
       output = 0;
+      constraint = 0;
       ands = 0;
+      reference = 1;
     }
 
--- The same with other numbers of names, gates and outputs read, and of the ANDs that these gates stand for.
-abbrev pub reached : Body → ℕ → ℕ → ℕ → ℕ → Body
-reached b name gate output ands =
+-- The same with other numbers of names, gates, outputs and constraints read, of the ANDs that these gates stand for, and another reference.
+abbrev pub reached : Body → ℕ → ℕ → ℕ → ℕ → ℕ → ℕ → Body
+reached b name gate output constraint ands reference =
     record {
       edition = b .edition;
       inputs = b .inputs;
       names = b .names;
       gates = b .gates;
       outputs = b .outputs;
+      constraints = b .constraints;
       name = name;
       gate = gate;
       output = output;
+      constraint = constraint;
       ands = ands;
+      reference = reference;
     }
 
--- What is due after a line with a name, a gate or an output: one more is read.
+-- What is due after a line with a name, a gate, an output or a constraint: one more is read.
 abbrev pub afterName : Body → Body
-afterName b = reached b (b .name + 1) (b .gate) (b .output) (b .ands)
+afterName b = reached b (b .name + 1) (b .gate) (b .output) (b .constraint) (b .ands) (b .reference)
 
 abbrev pub afterGate : Operation → Body → Body
-afterGate op b = reached b (b .name) (b .gate + 1) (b .output) (b .ands + andsOf op)
+afterGate op b = reached b (b .name) (b .gate + 1) (b .output) (b .constraint) (b .ands + andsOf op) (b .reference)
 
 abbrev pub afterOutput : Body → Body
-afterOutput b = reached b (b .name) (b .gate) (b .output + 1) (b .ands)
+afterOutput b = reached b (b .name) (b .gate) (b .output + 1) (b .constraint) (b .ands) (b .reference)
+
+abbrev pub afterConstraint : ℕ → Body → Body
+afterConstraint r b = reached b (b .name) (b .gate) (b .output) (b .constraint + 1) (b .ands) r
 
 -- What is due after a line that passed its tests.
 unfoldable pub dueAfter : Due → Record → Due
-dueAfter (First role) (Header e i g o) = Later (afterHeader e i g o)
+dueAfter (First role) (Header e i g o) = Later (afterHeader role e i g o)
 dueAfter (First role) Name = First role
 dueAfter (First role) (Gate op p q) = First role
 dueAfter (First role) (Output r) = First role
+dueAfter (First role) (Constraint r) = First role
 dueAfter (First role) Malformed = First role
 dueAfter (Later b) Name = Later (afterName b)
 dueAfter (Later b) (Gate op p q) = Later (afterGate op b)
 dueAfter (Later b) (Output r) = Later (afterOutput b)
+dueAfter (Later b) (Constraint r) = Later (afterConstraint r b)
 dueAfter (Later b) (Header e i g o) = Later b
 dueAfter (Later b) Malformed = Later b
 
@@ -184,6 +208,7 @@ nameGiven (name-line name) = name ∷ []
 nameGiven (header-line e i g o) = []
 nameGiven (gate-line op p q) = []
 nameGiven (output-line r) = []
+nameGiven (constraint-line r) = []
 nameGiven malformed-line = []
 
 -- The names of some lines, in order.
@@ -191,7 +216,7 @@ unfoldable pub namesIn : List Line → List (List ℕ)
 namesIn [] = []
 namesIn (l ∷ ls) = nameGiven l ++ namesIn ls
 
--- What an accepted file has.
+-- What an accepted file has: "r's reference .., 1 where no line gives it" among it. (RULES 1.13)
 pub record Counts : Type 0 where
   pub edition : ℕ
   pub inputs : ℕ
@@ -199,6 +224,7 @@ pub record Counts : Type 0 where
   pub gates : ℕ
   pub outputs : ℕ
   pub ands : ℕ
+  pub reference : ℕ
 
 -- An answer: the counts of an accepted file, or the number and the line of a refusal. (RULES 8.1)
 pub data Answer : Type 0 where
@@ -208,7 +234,15 @@ pub data Answer : Type 0 where
 -- The counts of a summary.
 abbrev pub summaryCounts : Summary → Counts
 summaryCounts s =
-    record { edition = s .edition; inputs = s .inputs; names = s .names; gates = s .gates; outputs = s .outputs; ands = s .ands }
+    record {
+      edition = s .edition;
+      inputs = s .inputs;
+      names = s .names;
+      gates = s .gates;
+      outputs = s .outputs;
+      ands = s .ands;
+      reference = s .reference;
+    }
 
 -- The rules' number and values for each case of the result. (RULES 8.1)
 abbrev pub answerOf : Checked → Answer
@@ -217,9 +251,17 @@ answerOf (Refused k n) = refused k n
 
 -- The counts when all lines are passed.
 abbrev pub countsOf : Due → Counts
-countsOf (First role) = record { edition = 0; inputs = 0; names = 0; gates = 0; outputs = 0; ands = 0 }
+countsOf (First role) = record { edition = 0; inputs = 0; names = 0; gates = 0; outputs = 0; ands = 0; reference = 1 }
 countsOf (Later b) =
-    record { edition = b .edition; inputs = b .inputs; names = b .names; gates = b .gates; outputs = b .outputs; ands = b .ands }
+    record {
+      edition = b .edition;
+      inputs = b .inputs;
+      names = b .names;
+      gates = b .gates;
+      outputs = b .outputs;
+      ands = b .ands;
+      reference = b .reference;
+    }
 
 -- The answer at line n, by the number of the refusal that applies there: 0 where none does, and then the answer is what follows.
 abbrev pub answerAt : ℕ → ℕ → Answer → Answer
@@ -247,6 +289,7 @@ gatesIn (Gate op p q ∷ rs) = record { op = op; p = p; q = q } ∷ gatesIn rs
 gatesIn (Header e i g o ∷ rs) = gatesIn rs
 gatesIn (Name ∷ rs) = gatesIn rs
 gatesIn (Output r ∷ rs) = gatesIn rs
+gatesIn (Constraint r ∷ rs) = gatesIn rs
 gatesIn (Malformed ∷ rs) = gatesIn rs
 
 -- The outputs of some records, in order.
@@ -256,7 +299,18 @@ outputsIn (Output r ∷ rs) = r ∷ outputsIn rs
 outputsIn (Header e i g o ∷ rs) = outputsIn rs
 outputsIn (Name ∷ rs) = outputsIn rs
 outputsIn (Gate op p q ∷ rs) = outputsIn rs
+outputsIn (Constraint r ∷ rs) = outputsIn rs
 outputsIn (Malformed ∷ rs) = outputsIn rs
+
+-- The constraints of some records, in order.
+unfoldable pub constraintsIn : List Record → List ℕ
+constraintsIn [] = []
+constraintsIn (Constraint r ∷ rs) = r ∷ constraintsIn rs
+constraintsIn (Header e i g o ∷ rs) = constraintsIn rs
+constraintsIn (Name ∷ rs) = constraintsIn rs
+constraintsIn (Gate op p q ∷ rs) = constraintsIn rs
+constraintsIn (Output r ∷ rs) = constraintsIn rs
+constraintsIn (Malformed ∷ rs) = constraintsIn rs
 
 -- The netlist of some lines, given the edition and the inputs of line 1.
 abbrev pub netlistIn : Counts → List Line → Netlist
@@ -267,6 +321,7 @@ netlistIn c ls =
       names = namesIn ls;
       gates = gatesIn (recordsIn ls);
       outputs = outputsIn (recordsIn ls);
+      constraints = constraintsIn (recordsIn ls);
     }
 
 -- A netlist, or a refusal's number and line.

@@ -2,7 +2,7 @@
 use Prim.Native.Nat.{_+_, ℕ}
 use Rattle.aig.specs.Values.{literalValue}
 use Rattle.netlist_model.specs.Check.{andsOf}
-use Rattle.netlist_model.specs.Netlist.{Gate, Netlist}
+use Rattle.netlist_model.specs.Netlist.{Gate, Netlist, constraintReference}
 use Rattle.netlist_model.specs.declared.Operation.the-variants.{And, Or, Xor}
 use Rattle.netlist_model.specs.declared.Operation.{Operation}
 use Rattle.table.specs.Table.{firstFunctions}
@@ -65,6 +65,10 @@ fileValues d s = vertexResults not _&&_ false operationValue (false ∷ s) (d .g
 unfoldable pub fileValue : Netlist → ℕ → Setting → Bool
 fileValue d k s = referenceValue (fileValues d s) (getD (d .outputs) k 0)
 
+-- "only settings on which r is true are allowed" (RULES 1.13)
+unfoldable pub allowed? : Netlist → Setting → Bool
+allowed? d s = referenceValue (fileValues d s) (constraintReference d)
+
 -- The values of the operands of each AND that the gates stand for, by plain evaluation.
 abbrev pub fileAndValues : Netlist → Setting → List (Bool × Bool)
 fileAndValues d s = andsFrom not _&&_ false operationValue (false ∷ s) (d .gates)
@@ -86,6 +90,10 @@ fileFunctions d = vertexResults invert conj (constantly (d .inputs) false) opera
 -- The function of output k.
 unfoldable pub fileFunction : Netlist → ℕ → Truth
 fileFunction d k = referenceFunction (d .inputs) (fileFunctions d) (getD (d .outputs) k 0)
+
+-- The function of r. (RULES 1.13)
+unfoldable pub constraintFunction : Netlist → Truth
+constraintFunction d = referenceFunction (d .inputs) (fileFunctions d) (constraintReference d)
 
 -- "Over the gates' ANDs they add up, folded and found ones too.": the functions of the operands of each AND. (RULES 5.8)
 unfoldable pub fileAnds : Netlist → List (Truth × Truth)

@@ -36,6 +36,7 @@ paired d e =
       names = d .names;
       gates = map (gateFor d e) (e .gates);
       outputs = map (referenceFor d e) (e .outputs);
+      constraints = map (referenceFor d e) (e .constraints);
     }
 
 -- "Settings follow the first file's order": the digits of a setting in the second file's order, in edition 2 each by its name. (RULES 1.11)

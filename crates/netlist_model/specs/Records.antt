@@ -5,7 +5,7 @@ use Rattle.netlist_model.specs.declared.Operation.the-variants.{And, Or,
 use Rattle.netlist_model.specs.declared.Operation.{Operation}
 use Rattle.netlist_model.specs.declared.OperationField.the-variants.{Named, Unknown}
 use Rattle.netlist_model.specs.declared.OperationField.{OperationField}
-use Rattle.netlist_model.specs.declared.Record.the-variants.{Gate, Header, Malformed, Name, Output}
+use Rattle.netlist_model.specs.declared.Record.the-variants.{Constraint, Gate, Header, Malformed, Name, Output}
 use Rattle.netlist_model.specs.declared.Record.{Record}
 use Rattle.text.specs.Bytes.{sameBytes}
 use Rattle.text.specs.Numerals.{numeralOf}
@@ -66,6 +66,11 @@ abbrev pub outputOf : Numeral → Record
 outputOf (Value r) = Output r
 outputOf Unread = Malformed
 
+-- "A first file may end with one line `C⇥r`" (RULES 1.13)
+abbrev pub constraintOf : Numeral → Record
+constraintOf (Value r) = Constraint r
+constraintOf Unread = Malformed
+
 -- Whether there are n fields and the first is a letter.
 abbrev pub laidOut : ℕ → List ℕ → List (List ℕ) → Bool
 laidOut n letter fs = eqb (length fs) n && sameBytes (getD fs 0 []) letter
@@ -83,13 +88,17 @@ gateIn fs = gateOf (operationOf (getD fs 1 [])) (numeralOf (getD fs 2 [])) (nume
 abbrev pub outputIn : List (List ℕ) → Record
 outputIn fs = outputOf (numeralOf (getD fs 1 []))
 
--- "an N, I, G or O record of this layout": the record of a line's fields. (RULES 8.1)
+abbrev pub constraintIn : List (List ℕ) → Record
+constraintIn fs = constraintOf (numeralOf (getD fs 1 []))
+
+-- "an N, I, G, O or C record of this layout": the record of a line's fields. (RULES 8.1)
 unfoldable pub fieldsRecord : List (List ℕ) → Record
 fieldsRecord fs =
     cond (laidOut 5 (78 ∷ []) fs) (headerIn fs)
     (cond (laidOut 2 (73 ∷ []) fs) (nameIn fs)
     (cond (laidOut 4 (71 ∷ []) fs) (gateIn fs)
-    (cond (laidOut 2 (79 ∷ []) fs) (outputIn fs) Malformed)))
+    (cond (laidOut 2 (79 ∷ []) fs) (outputIn fs)
+    (cond (laidOut 2 (67 ∷ []) fs) (constraintIn fs) Malformed))))
 
 -- "fields parted by one tab (byte 9)": the record of a line without its end byte. (RULES 1.1)
 unfoldable pub recordOf : List ℕ → Record
@@ -101,6 +110,7 @@ pub data Line : Type 0 where
   name-line : List ℕ → Line
   gate-line : Operation → ℕ → ℕ → Line
   output-line : ℕ → Line
+  constraint-line : ℕ → Line
   malformed-line : Line
 
 -- Its record.
@@ -109,6 +119,7 @@ kindOf (header-line e i g o) = Header e i g o
 kindOf (name-line name) = Name
 kindOf (gate-line op p q) = Gate op p q
 kindOf (output-line r) = Output r
+kindOf (constraint-line r) = Constraint r
 kindOf malformed-line = Malformed
 
 -- The line with a record and its fields.
@@ -117,6 +128,7 @@ lineWith (Header e i g o) fs = header-line e i g o
 lineWith Name fs = name-line (getD fs 1 [])
 lineWith (Gate op p q) fs = gate-line op p q
 lineWith (Output r) fs = output-line r
+lineWith (Constraint r) fs = constraint-line r
 lineWith Malformed fs = malformed-line
 
 -- A line without its end byte.

@@ -45,21 +45,25 @@ pub enum Record {
         q: u32,
     },
     Output(u32),
+    Constraint(u32),
     Malformed,
 }
 
-// The edition and the counts of line 1, how many names it makes due, the numbers of names, gates and outputs read so far, and the ANDs that
-// these gates stand for.
+// The edition and the counts of line 1, how many names it makes due, how many C lines may come, the numbers of names, gates, outputs and C lines
+// read so far, the ANDs that these gates stand for, and the reference that a C line gave, 1 where none has.
 pub struct Body {
     pub edition: u32,
     pub inputs: u32,
     pub names: u32,
     pub gates: u32,
     pub outputs: u32,
+    pub constraints: u32,
     pub name: u32,
     pub gate: u32,
     pub output: u32,
+    pub constraint: u32,
     pub ands: u32,
+    pub reference: u32,
 }
 
 // What is due: line 1 of a file, or a line after it.
@@ -74,7 +78,7 @@ pub enum Stepped {
     Refuse(u32),
 }
 
-// What an accepted file has; `start` is where its gate lines start.
+// What an accepted file has; `reference` is that of its C line, 1 where there is none, and `start` is where its gate lines start.
 pub struct Summary {
     pub edition: u32,
     pub inputs: u32,
@@ -82,6 +86,7 @@ pub struct Summary {
     pub gates: u32,
     pub outputs: u32,
     pub ands: u32,
+    pub reference: u32,
     pub start: usize,
 }
 

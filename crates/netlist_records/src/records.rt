@@ -1,5 +1,5 @@
 // The records of lines.
-ghost use Rattle.netlist_model.specs.Records.{gateIn, gateOf, headerIn, headerOf, laidOut, letterOrDigit?, lettersOrDigits?, lineOf, name-line, name?, nameIn, operationOf, outputIn, recordOf};
+ghost use Rattle.netlist_model.specs.Records.{constraintIn, gateIn, gateOf, headerIn, headerOf, laidOut, letterOrDigit?, lettersOrDigits?, lineOf, name-line, name?, nameIn, operationOf, outputIn, recordOf};
 ghost use Rattle.text.specs.Split.{splitAt};
 ghost use lib.Dec.{leb};
 ghost use lib.ListN.{length};
@@ -27,6 +27,9 @@ pub fn read_record(line: &[u8]) -> Record
     }
     if is_laid_out(line, 2, b"O") {
         return read_output(line);
+    }
+    if is_laid_out(line, 2, b"C") {
+        return read_constraint(line);
     }
     Record::Malformed
 }
@@ -150,6 +153,16 @@ fn read_output(line: &[u8]) -> Record
 {
     match text::parse(text::part(line, 1, TAB)) {
         Numeral::Value(r) => Record::Output(r),
+        Numeral::Malformed => Record::Malformed,
+    }
+}
+
+fn read_constraint(line: &[u8]) -> Record
+    requires { ⌜ length (splitAt 9 (now line)) ≡ 2 ⌝ }
+    ensures { λ r. ⌜ r ≡ constraintIn (splitAt 9 (now (line .entry))) ⌝ }
+{
+    match text::parse(text::part(line, 1, TAB)) {
+        Numeral::Value(r) => Record::Constraint(r),
         Numeral::Malformed => Record::Malformed,
     }
 }

@@ -1,4 +1,5 @@
-// The checker on good and on damaged drawing files, those of `files.txt` and the longest. A line for each: what the file is, and what came.
+// The checker on good and on damaged drawing files, those of `files.txt` and the longest. A line for each: what the file is, and what came; a C
+// line's reference where it is not 1.
 use libc::STDOUT_FILENO;
 use netlist::Checked;
 use netlist::check;
@@ -8,8 +9,11 @@ use run_card_file::number;
 ghost use Prim.Native.Nat.{_<_, _≤_};
 ghost use lib.ListN.{length};
 
-// The bytes of the longest good file of edition 1: line 1, 436 and 3,660 gate lines, 64 output lines.
-const LONGEST: usize = 65127;
+// The bytes of the longest good file of edition 1 without a C line: line 1, 436 and 3,660 gate lines, 64 output lines.
+const WITHOUT: usize = 65127;
+
+// And with one.
+const LONGEST: usize = 65134;
 
 fn show(name: &[u8], file: &[u8], role: Role) {
     io::write_all(STDOUT_FILENO, name);
@@ -21,6 +25,9 @@ fn show(name: &[u8], file: &[u8], role: Role) {
             print(b" gates ", summary.gates as u64);
             print(b" outputs ", summary.outputs as u64);
             print(b" ands ", summary.ands as u64);
+            if summary.reference != 1 {
+                print(b" reference ", summary.reference as u64);
+            }
             print(b" start ", summary.start as u64);
         }
         Checked::Refused { number, line } => {
@@ -62,24 +69,37 @@ fn role_of(edition: u32) -> Role {
     Role::Second(edition)
 }
 
-// Writes the longest good file of edition 1.
+// Writes the longest good file of edition 1, and shows it without its C line and with it.
 fn longest() {
     let mut file = [0u8; LONGEST];
     repeat(b"N\t1\t64\t4096\t64\n", &mut file, 0, 15);
     repeat(b"G\txor\t129\t129\n", &mut file, 15, 6119);
     repeat(b"G\txor\t1001\t1001\n", &mut file, 6119, 64679);
-    repeat(b"O\t8321\n", &mut file, 64679, LONGEST);
+    repeat(b"O\t8321\n", &mut file, 64679, WITHOUT);
+    repeat(b"C\t8321\n", &mut file, WITHOUT, LONGEST);
     show_longest(&file);
 }
 
 fn show_longest(file: &[u8; LONGEST]) {
-    show(b"the longest good file of edition 1", file, Role::First);
+    show_front(b"the longest good file of edition 1", file, WITHOUT);
+    show_front(
+        b"the longest good file of edition 1, with a C line",
+        file,
+        LONGEST,
+    );
+}
+
+// The checker on the bytes before `end`.
+fn show_front(name: &[u8], file: &[u8], end: usize)
+    requires { ⌜ end ≤ length (now file) ⌝ }
+{
+    show(name, &file[..end], Role::First);
 }
 
 // Writes a line again and again from `from` up to `to`.
 fn repeat(line: &[u8], file: &mut [u8; LONGEST], from: usize, to: usize)
     requires { ⌜ 0 < length (now line) ⌝ }
-    requires { ⌜ to ≤ 65127 ⌝ }
+    requires { ⌜ to ≤ 65134 ⌝ }
 {
     let mut at = from;
     while at < to {

@@ -2,7 +2,7 @@
 use Prim.Native.Nat.{_≤_, ℕ}
 use Rattle.netlist_model.specs.Check.{Counts, netlistIn, read, readNetlist, summaryCounts}
 use Rattle.netlist_model.specs.Meaning.{andCount}
-use Rattle.netlist_model.specs.Netlist.{Netlist, Within, bodyRecords, bytesOf, netlistLines}
+use Rattle.netlist_model.specs.Netlist.{Netlist, Within, bodyRecords, bytesOf, constraintReference, netlistLines}
 use Rattle.netlist_model.specs.Records.{fileLines}
 use Rattle.netlist_model.specs.code.Passing.{fileRecords, gatesAt}
 use Rattle.netlist_model.specs.declared.Role.the-variants as role
@@ -10,13 +10,18 @@ use Rattle.netlist_model.specs.declared.Role.the-variants.{Second}
 use Rattle.netlist_model.specs.declared.Role.{Role}
 use Rattle.netlist_model.specs.declared.Summary.{Summary}
 use lib.ListN.{drop, length}
-use mathlib.Core.List.{List}
+use mathlib.Core.List.{List, []}
 use mathlib.Core.Path.{_≡_}
 
--- The edition of a file suits its role: in a second file it is that of the first. (RULES 8.1)
-abbrev pub Suits : Role → ℕ → Type 0
-Suits role.First e = Unit
-Suits (Second first) e = e ≡ first
+-- A second file has the edition of the first, and no `C` line. (RULES 1.13, 8.1)
+pub record SuitsSecond (first : ℕ) (d : Netlist) : Type 0 where
+  pub edition : d .edition ≡ first
+  pub constraints : d .constraints ≡ []
+
+-- A netlist suits its file's role. (RULES 8.1)
+abbrev pub Suits : Role → Netlist → Type 0
+Suits role.First d = Unit
+Suits (Second first) d = SuitsSecond first d
 
 -- The counts of a netlist.
 abbrev pub countsIn : Netlist → Counts
@@ -28,6 +33,7 @@ countsIn d =
       gates = length (d .gates);
       outputs = length (d .outputs);
       ands = andCount (d .gates);
+      reference = constraintReference d;
     }
 
 -- Counts with the place at which the gate lines start.
@@ -40,6 +46,7 @@ summaryWith start c =
       gates = c .gates;
       outputs = c .outputs;
       ands = c .ands;
+      reference = c .reference;
       start = start;
     }
 
@@ -59,5 +66,5 @@ pub record HoldsNetlist (bytes : List ℕ) (s : Summary) (d : Netlist) : Type 0 
 -- And it is read as that netlist.
 pub record ReadAs (role : Role) (bytes : List ℕ) (s : Summary) (d : Netlist) : Type 0 where
   pub reads : readNetlist role bytes ≡ read d
-  pub edition : Suits role (d .edition)
+  pub suits : Suits role d
   pub holds : HoldsNetlist bytes s d

@@ -26,7 +26,7 @@ use mathlib.Core.Path.{_≡_}
 abbrev pub fileRecords : List ℕ → List Record
 fileRecords bytes = recordsIn (fileLines bytes)
 
--- The first of some bytes' lines: "2. The line is not an N, I, G or O record of this layout or has no end byte." (RULES 8.1)
+-- The first of some bytes' lines: "2. The line is not an N, I, G, O or C record of this layout or has no end byte." (RULES 8.1)
 unfoldable pub firstLine : List ℕ → Line
 firstLine bytes = cond (has 10 bytes) (lineOf (upTo 10 bytes)) malformed-line
 
@@ -59,9 +59,11 @@ pub record Counted (b : Body) : Type 0 where
   pub names : b .names ≤ maxInputs
   pub gates : b .gates ≤ maxGates
   pub outputs : b .outputs ≤ maxOutputs
+  pub constraints : b .constraints ≤ 1
   pub name : b .name ≤ b .names
   pub gate : b .gate ≤ b .gates
   pub output : b .output ≤ b .outputs
+  pub constraint : b .constraint ≤ b .constraints
   pub ands : b .ands ≤ 3 * b .gate
 
 -- The same of what is due.
@@ -72,7 +74,7 @@ pub data Held : Due → Type 0 where
 -- The number of the line that is due.
 unfoldable pub lineDue : Due → ℕ
 lineDue (First role) = 1
-lineDue (Later b) = 2 + b .name + b .gate + b .output
+lineDue (Later b) = 2 + b .name + b .gate + b .output + b .constraint
 
 -- The first names after line 1.
 unfoldable pub frontNames : ℕ → List ℕ → List (List ℕ)

@@ -1,6 +1,6 @@
 -- Each arm is one kind of record; no loop.
 -- The header's counts are tested by the call.
-use Rattle.netlist_model.proofs.StepLaws.{gate-first, malformed-refused, name-first, output-first}
+use Rattle.netlist_model.proofs.StepLaws.{constraint-first, gate-first, malformed-refused, name-first, output-first}
 use Rattle.netlist.proofs.check.first_step.Statement.{statement}
 use Rattle.netlist.proofs.check.first_step.Tie as tie
 use Rattle.netlist_model.specs.declared.Due.the-variants.{First}
@@ -19,6 +19,9 @@ enum-told-3 c = search needs
 
 enum-told-4 : tie.Need-enum-told-4
 enum-told-4 c = search needs
+
+enum-told-5 : tie.Need-enum-told-5
+enum-told-5 c = search needs
 
 enum-known-found : tie.Need-enum-known-found
 enum-known-found c = search needs
@@ -39,7 +42,10 @@ returns-4 : tie.Need-returns-4
 returns-4 c = rw (c .enum-told4 .given .1) (sym (output-first [] _ _))
 
 returns-5 : tie.Need-returns-5
-returns-5 c = rw (c .before .before .found .given .1) (c .header-step .ensures)
+returns-5 c = rw (c .enum-told5 .given .1) (sym (constraint-first [] _ _))
+
+returns-6 : tie.Need-returns-6
+returns-6 c = rw (c .before .before .found .given .1) (c .header-step .ensures)
 
 pub first-step-spec : {M : Type 1} → statement M
 first-step-spec =
@@ -49,10 +55,12 @@ first-step-spec =
     enum-told-2
     enum-told-3
     enum-told-4
+    enum-told-5
     enum-known-found
     header-step-requires
     returns
     returns-2
     returns-3
     returns-4
-    returns-5)
+    returns-5
+    returns-6)

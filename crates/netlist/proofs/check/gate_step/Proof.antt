@@ -33,23 +33,27 @@ returns-4 c =
     let at2 = c .before .before .before .before in
     sym (gate-beyond [] _ _ _ _ (record { names = at2 .before .before .if1 .left; room = at2 .if2 .left }) (λ f. omega (arith, f .right, c .if4 .taken)))
 
-add-t8 : tie.Need-add-t8
-add-t8 c = search needs
+add-reached : tie.Need-add-reached
+add-reached c = search needs
 
 ands-of-requires : tie.Need-ands-of-requires
 ands-of-requires c κs = search needs
 
-add-t9 : tie.Need-add-t9
-add-t9 c =
+add-reached-2 : tie.Need-add-reached-2
+add-reached-2 c =
     let at2 = c .before .before .before .before .before .before .before in
     let entry = at2 .before .before .before .before in
     omega (arith, c .before .ands-of .ensures, ands-few (entry .args .op), entry .pre .ands, entry .pre .gate, entry .pre .gates)
 
+reached-requires : tie.Need-reached-requires
+reached-requires c κs = search needs
+
 returns-5 : tie.Need-returns-5
 returns-5 c =
-    let at4 = c .before .before .before in
+    let counting = c .before .before in
+    let at4 = counting .before .before in
     let at2 = at4 .before .before .before .before in
-    rw (c .before .ands-of .ensures)
+    rw (c .reached .ensures, counting .ands-of .ensures)
     (sym
     (gate-next [] _ _ _ _ (record { names = at2 .before .before .if1 .left; room = at2 .if2 .left })
     (record { left = at4 .before .if3 .left; right = at4 .if4 .left })))
@@ -65,7 +69,8 @@ gate-step-spec =
     mul-bound
     returns-3
     returns-4
-    add-t8
+    add-reached
     ands-of-requires
-    add-t9
+    add-reached-2
+    reached-requires
     returns-5)

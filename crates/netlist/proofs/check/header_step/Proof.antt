@@ -38,10 +38,14 @@ returns-5 c =
 name-count-requires : tie.Need-name-count-requires
 name-count-requires c κs = search needs
 
+constraints-due-requires : tie.Need-constraints-due-requires
+constraints-due-requires c κs = search needs
+
 returns-6 : tie.Need-returns-6
 returns-6 c =
-    let at1 = c .before .before .before .before .before in
-    rw (c .name-count .ensures)
+    let counting = c .before in
+    let at1 = counting .before .before .before .before .before in
+    rw (counting .name-count .ensures, c .constraints-due .ensures)
     (sym
     (header-next [] _ _ _ _ _ (known-is _ _ (sym (at1 .before .is-known .ensures) ∙ not-false _ (at1 .if1 .left)))
     (record { inputs = search needs; gates = search needs; some = search needs; outputs = search needs })))
@@ -57,4 +61,5 @@ header-step-spec =
     returns-4
     returns-5
     name-count-requires
+    constraints-due-requires
     returns-6)

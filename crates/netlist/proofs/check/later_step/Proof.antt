@@ -1,6 +1,6 @@
 -- Each arm is one kind of record; no loop.
 -- The calls keep the counts within their limits.
-use Rattle.netlist_model.proofs.StepLaws.{gate-unseen, header-again, line-told, malformed-refused, output-unseen}
+use Rattle.netlist_model.proofs.StepLaws.{constraint-unseen, gate-unseen, header-again, line-told, malformed-refused, output-unseen}
 use Rattle.netlist_model.specs.code.Passing.{firstLine}
 use Rattle.netlist_model.specs.declared.Due.the-variants.{Later}
 use Rattle.netlist.proofs.check.later_step.Statement.{statement}
@@ -35,6 +35,12 @@ enum-known-found-2 c = search needs
 output-step-requires : tie.Need-output-step-requires
 output-step-requires c κs = search needs
 
+enum-known-found-3 : tie.Need-enum-known-found-3
+enum-known-found-3 c = search needs
+
+constraint-step-requires : tie.Need-constraint-step-requires
+constraint-step-requires c κs = search needs
+
 returns : tie.Need-returns
 returns c =
     let entry = c .before .before .before in
@@ -64,6 +70,13 @@ returns-5 c =
     let line = firstLine (drop (entry .args .at) (entry .args .file .now)) in
     rw (line-told line (sym (entry .pre .1 .1 .1) ∙ told .found2 .given .1) tt) (c .output-step .ensures ∙ sym (output-unseen _ _ _))
 
+returns-6 : tie.Need-returns-6
+returns-6 c =
+    let told = c .before .before in
+    let entry = told .before .before .before in
+    let line = firstLine (drop (entry .args .at) (entry .args .file .now)) in
+    rw (line-told line (sym (entry .pre .1 .1 .1) ∙ told .found3 .given .1) tt) (c .constraint-step .ensures ∙ sym (constraint-unseen _ _ _))
+
 pub later-step-spec : {M : Type 1} → statement M
 later-step-spec =
     tie.close
@@ -76,8 +89,11 @@ later-step-spec =
     gate-step-requires
     enum-known-found-2
     output-step-requires
+    enum-known-found-3
+    constraint-step-requires
     returns
     returns-2
     returns-3
     returns-4
-    returns-5)
+    returns-5
+    returns-6)

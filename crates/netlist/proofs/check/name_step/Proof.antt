@@ -34,20 +34,24 @@ returns-2 c =
     (name-twice _ _ _ (finding .before .if1 .left)
     (place-among _ _ (omega (arith, finding .find-name .ensures, c .if2 .taken, front-count (entry .pre .1 .0))))))
 
-add-t6 : tie.Need-add-t6
-add-t6 c = search needs
+add-reached : tie.Need-add-reached
+add-reached c = search needs
+
+reached-requires : tie.Need-reached-requires
+reached-requires c κs = search needs
 
 returns-3 : tie.Need-returns-3
 returns-3 c =
-    let finding = c .before .before .before in
+    let at2 = c .before .before in
+    let finding = at2 .before .before in
     let reading = finding .before .before .before in
     let entry = reading .before .before in
-    rw (name-line-told (entry .args .file .now) (entry .args .at) (entry .pre .1 .1 .1) (reading .name-at .ensures))
+    rw (c .reached .ensures, name-line-told (entry .args .file .now) (entry .args .at) (entry .pre .1 .1 .1) (reading .name-at .ensures))
     (sym
     (name-next _ _ _ (finding .before .if1 .left)
-    (λ a. omega (arith, among-place a, finding .find-name .ensures, c .before .if2 .left, front-count (entry .pre .1 .0)))))
+    (λ a. omega (arith, among-place a, finding .find-name .ensures, at2 .if2 .left, front-count (entry .pre .1 .0)))))
 
 pub name-step-spec : {M : Type 1} → statement M
 name-step-spec =
     tie.close
-    (tie.spec name-at-requires returns find-name-requires returns-2 add-t6 returns-3)
+    (tie.spec name-at-requires returns find-name-requires returns-2 add-reached reached-requires returns-3)

@@ -84,14 +84,42 @@ returns-4 c =
     rw (sym (at1 .before .is-laid-out .ensures) ∙ at1 .if1 .left, sym (at2 .before .is-laid-out2 .ensures) ∙ at2 .if2 .left)
     (rw (sym (at3 .before .is-laid-out3 .ensures) ∙ at3 .if3 .left, sym (at4 .before .is-laid-out4 .ensures) ∙ at4 .if4 .taken) (c .read-output .ensures))
 
+slice-aggregate-is-laid-out-5 : tie.Need-slice-aggregate-is-laid-out-5
+slice-aggregate-is-laid-out-5 c = search needs
+
+is-laid-out-requires-5 : tie.Need-is-laid-out-requires-5
+is-laid-out-requires-5 c κs = search needs
+
+read-constraint-requires : tie.Need-read-constraint-requires
+read-constraint-requires c κs =
+    let at4 = c .before .before .before in
+    let at3 = at4 .before .before .before in
+    let at2 = at3 .before .before .before in
+    let at1 = at2 .before .before .before in
+    laid-out-count 2 (67 ∷ []) (splitAt 9 (at1 .before .before .before .before .args .line .now)) (sym (c .before .is-laid-out5 .ensures) ∙ c .if5 .taken)
+
 returns-5 : tie.Need-returns-5
 unfolding recordOf fieldsRecord
 returns-5 c =
-    let at3 = c .before .before .before in
+    let at5 = c .before in
+    let at4 = at5 .before .before .before in
+    let at3 = at4 .before .before .before in
     let at2 = at3 .before .before .before in
     let at1 = at2 .before .before .before in
     rw (sym (at1 .before .is-laid-out .ensures) ∙ at1 .if1 .left, sym (at2 .before .is-laid-out2 .ensures) ∙ at2 .if2 .left)
-    (rw (sym (at3 .before .is-laid-out3 .ensures) ∙ at3 .if3 .left, sym (c .before .is-laid-out4 .ensures) ∙ c .if4 .left) refl)
+    (rw (sym (at3 .before .is-laid-out3 .ensures) ∙ at3 .if3 .left, sym (at4 .before .is-laid-out4 .ensures) ∙ at4 .if4 .left)
+    (rw (sym (at5 .before .is-laid-out5 .ensures) ∙ at5 .if5 .taken) (c .read-constraint .ensures)))
+
+returns-6 : tie.Need-returns-6
+unfolding recordOf fieldsRecord
+returns-6 c =
+    let at4 = c .before .before .before in
+    let at3 = at4 .before .before .before in
+    let at2 = at3 .before .before .before in
+    let at1 = at2 .before .before .before in
+    rw (sym (at1 .before .is-laid-out .ensures) ∙ at1 .if1 .left, sym (at2 .before .is-laid-out2 .ensures) ∙ at2 .if2 .left)
+    (rw (sym (at3 .before .is-laid-out3 .ensures) ∙ at3 .if3 .left, sym (at4 .before .is-laid-out4 .ensures) ∙ at4 .if4 .left)
+    (rw (sym (c .before .is-laid-out5 .ensures) ∙ c .if5 .left) refl))
 
 pub read-record-spec : {M : Type 1} → statement M
 read-record-spec =
@@ -113,4 +141,8 @@ read-record-spec =
     is-laid-out-requires-4
     read-output-requires
     returns-4
-    returns-5)
+    slice-aggregate-is-laid-out-5
+    is-laid-out-requires-5
+    read-constraint-requires
+    returns-5
+    returns-6)
