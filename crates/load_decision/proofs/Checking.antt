@@ -57,7 +57,7 @@ module _ {left right : List ℕ} {s t : Summary} (c : Checks left right s t) whe
 
   -- The files are of one edition,
   pub editions-same : t .edition ≡ s .edition
-  editions-same = ap (λ (x : Summary). x .edition) (right-reads .holds .counts) ∙ right-reads .edition
+  editions-same = ap (λ (x : Summary). x .edition) (right-reads .holds .counts) ∙ right-reads .suits .edition
 
   -- so that with as many inputs they have as many names.
   pub names-same : s .inputs ≡ t .inputs → s .names ≡ t .names

@@ -8,15 +8,15 @@ use Rattle.load_graph.specs.code.Slices.{tracedOf}
 use Rattle.load_graph.specs.declared.Counts.{Counts}
 use Rattle.load_file.specs.code.File.{GateLine, GatesAhead, GatesPassed, OutputLine, OutputsAhead}
 use Rattle.netlist_model.proofs.LineLaws.{RecordAt, record-ahead}
-use Rattle.netlist_model.proofs.ReadLaws.{gates-in, outputs-in}
-use Rattle.netlist_model.specs.Check.{andsOf, gatesIn, outputsIn}
+use Rattle.netlist_model.proofs.ReadLaws.{constraints-in, gates-in, outputs-in}
+use Rattle.netlist_model.specs.Check.{andsOf, constraintsIn, gatesIn, outputsIn}
 use Rattle.netlist_model.specs.Meaning.{andCount}
 use Rattle.netlist_model.specs.Netlist as netlist
 use Rattle.netlist_model.specs.Netlist.{AllBelow, Downward, gateRecord}
 use Rattle.netlist_model.specs.Records.{recordOf}
 use Rattle.netlist_model.specs.code.Passing.{fileRecords}
 use Rattle.netlist_model.specs.declared.Operation.{Operation}
-use Rattle.netlist_model.specs.declared.Record.the-variants.{Gate, Malformed, Output}
+use Rattle.netlist_model.specs.declared.Record.the-variants.{Constraint, Gate, Malformed, Output}
 use Rattle.netlist_model.specs.declared.Record.{Record}
 use Rattle.table.specs.Limits.{maxAnds}
 use Rattle.text.specs.Decimal.{written}
@@ -34,9 +34,10 @@ use native.Mathlib.Omega.{arith}
 pub literal-front : (literals : List ℕ) (n r : ℕ) → r < 2 * n → literalFor (take n literals) r ≡ literalFor literals r
 literal-front literals n r h = rw (getD-take n literals (vertexOf r) 0 (omega arith)) refl
 
--- A kind of record is none of four others.
-pub none-of : {kind a b c d : ℕ} → (kind ≡ a) ⊎ ((kind ≡ b) ⊎ ((kind ≡ c) ⊎ (kind ≡ d))) → (kind ≡ a → ⊥) → (kind ≡ b → ⊥) → (kind ≡ c → ⊥) → (kind ≡ d → ⊥) → ⊥
-none-of k f g h i = ⊎-elim f (λ l. ⊎-elim g (λ m. ⊎-elim h i m) l) k
+-- A kind of record is none of five others.
+pub none-of : {kind a b c d e : ℕ} → (kind ≡ a) ⊎ ((kind ≡ b) ⊎ ((kind ≡ c) ⊎ ((kind ≡ d) ⊎ (kind ≡ e))))
+    → (kind ≡ a → ⊥) → (kind ≡ b → ⊥) → (kind ≡ c → ⊥) → (kind ≡ d → ⊥) → (kind ≡ e → ⊥) → ⊥
+none-of k f g h i j = ⊎-elim f (λ l. ⊎-elim g (λ m. ⊎-elim h (λ n. ⊎-elim i j n) m) l) k
 
 -- What the gate of a line keeps.
 pub record Due (v asked : ℕ) (op : Operation) (p q : ℕ) : Type 0 where
@@ -80,12 +81,12 @@ gate-formed : (g : netlist.Gate) → gateRecord g ≡ Malformed → ⊥
 gate-formed g e = let z : _≡_ {A = ℕ} 0 1 = cc in omega arith
 
 -- Before a gate line: the gates ahead, asked for from here, come to what all of them come to. The last vertex is the one before `end`.
-module _ (file : List ℕ) (all : List netlist.Gate) (os : List ℕ) (end : ℕ) (before : Traced) where
+module _ (file : List ℕ) (all : List netlist.Gate) (os cs : List ℕ) (end : ℕ) (before : Traced) where
   pub record AskingGates (at v : ℕ) (t : Traced) : Type 0 where
     pub rest : List netlist.Gate
     pub counted : v + length rest ≡ end
     pub inside : at ≤ length file
-    pub records : fileRecords (drop at file) ≡ map gateRecord rest ++ map Output os
+    pub records : fileRecords (drop at file) ≡ map gateRecord rest ++ (map Output os ++ map Constraint cs)
     pub ahead : askGates t rest ≡ askGates before all
     pub downward : Downward v rest
     pub room : t .build .asked + andCount rest ≤ maxAnds
@@ -94,7 +95,7 @@ module _ (file : List ℕ) (all : List netlist.Gate) (os : List ℕ) (end : ℕ)
   record NextGate (at v : ℕ) (t : Traced) : Type 0 where
     gate : netlist.Gate
     others : List netlist.Gate
-    line : RecordAt file at (gateRecord gate) (map gateRecord others ++ map Output os)
+    line : RecordAt file at (gateRecord gate) (map gateRecord others ++ (map Output os ++ map Constraint cs))
     counted : v + 1 + length others ≡ end
     ahead : askGates t (gate ∷ others) ≡ askGates before all
     first-below : gate .p < 2 * v
@@ -102,16 +103,21 @@ module _ (file : List ℕ) (all : List netlist.Gate) (os : List ℕ) (end : ℕ)
     downward : Downward (v + 1) others
     room : t .build .asked + andsOf (gate .op) + andCount others ≤ maxAnds
 
--- The gates of the file from a place on, and its outputs.
+-- The gates of the file from a place on, its outputs and its constraints.
 abbrev pub GatesFrom : List ℕ → ℕ → ℕ → Traced → ℕ → ℕ → Traced → Type 0
 GatesFrom file start end before at v t =
-    AskingGates file (gatesIn (fileRecords (drop start file))) (outputsIn (fileRecords (drop start file))) end before at v t
+    AskingGates file (gatesIn (fileRecords (drop start file))) (outputsIn (fileRecords (drop start file))) (constraintsIn (fileRecords (drop start file))) end before at v t
 
 pub gates-begin :
     {file : List ℕ} {start count v : ℕ} (before : Traced) → GatesAhead file start count v (before .build .asked)
     → GatesFrom file start (v + count) before start v before
 gates-begin before g =
-    rw (g .records, gates-in (g .gates) (g .outputs), outputs-in (g .gates) (g .outputs))
+    rw (
+      g .records,
+      gates-in (g .gates) (g .outputs) (g .constraints),
+      outputs-in (g .gates) (g .outputs) (g .constraints),
+      constraints-in (g .gates) (g .outputs) (g .constraints),
+    )
     (record {
       rest = g .gates;
       counted = omega (arith, g .counted);
@@ -122,7 +128,7 @@ gates-begin before g =
       room = g .room;
     })
 
-module _ {file : List ℕ} {all : List netlist.Gate} {os : List ℕ} {end : ℕ} {before t : Traced} {at v : ℕ} (a : AskingGates file all os end before at v t) where
+module _ {file : List ℕ} {all : List netlist.Gate} {os cs : List ℕ} {end : ℕ} {before t : Traced} {at v : ℕ} (a : AskingGates file all os cs end before at v t) where
   -- The last gate is passed.
   module _ (last : end ≤ v) where
     none : a .rest ≡ []
@@ -136,17 +142,17 @@ module _ {file : List ℕ} {all : List netlist.Gate} {os : List ℕ} {end : ℕ}
     unfolding askGates
     gates-end = rw none at (a .ahead)
 
-    pub gates-outputs : fileRecords (drop at file) ≡ map Output os
+    pub gates-outputs : fileRecords (drop at file) ≡ map Output os ++ map Constraint cs
     gates-outputs = rw none at (a .records)
 
   module _ (more : v < end) where
-    next-gate : NextGate file all os end before at v t
+    next-gate : NextGate file all os cs end before at v t
     unfolding andCount
     next-gate = go (a .rest) (a .counted) (a .records) (a .ahead) (a .downward) (a .room)
       where
         go :
-            (gs : List netlist.Gate) → v + length gs ≡ end → fileRecords (drop at file) ≡ map gateRecord gs ++ map Output os
-            → askGates t gs ≡ askGates before all → Downward v gs → t .build .asked + andCount gs ≤ maxAnds → NextGate file all os end before at v t
+            (gs : List netlist.Gate) → v + length gs ≡ end → fileRecords (drop at file) ≡ map gateRecord gs ++ (map Output os ++ map Constraint cs)
+            → askGates t gs ≡ askGates before all → Downward v gs → t .build .asked + andCount gs ≤ maxAnds → NextGate file all os cs end before at v t
         go [] n r h w m = absurd (omega arith)
         go (g ∷ gs) n r h (netlist.Downward.gate hp hq w) m =
             record {
@@ -181,7 +187,7 @@ module _ {file : List ℕ} {all : List netlist.Gate} {os : List ℕ} {end : ℕ}
     -- Its gate is asked for.
     pub gates-next :
         {u : Traced} → u ≡ askGates t (gatesIn (recordOf (upTo 10 (drop at file)) ∷ []))
-        → AskingGates file all os end before (at + length (upTo 10 (drop at file)) + 1) (v + 1) u
+        → AskingGates file all os cs end before (at + length (upTo 10 (drop at file)) + 1) (v + 1) u
     unfolding askGates gatesIn
     gates-next {u} e =
         let n = next-gate in
@@ -208,12 +214,12 @@ gates-passed {end = end} {v = v} literals pairs c a last =
     record { asked = rw e (gates-end a last); inside = a .inside; records = gates-outputs a last }
 
 -- Before an output line: the references ahead, and their literals still to be written. The last place is the one before `end`.
-module _ (file : List ℕ) (n : ℕ) (f : ℕ → ℕ) (old : List ℕ) (from : ℕ) (all : List ℕ) (end : ℕ) where
+module _ (file : List ℕ) (n : ℕ) (f : ℕ → ℕ) (old : List ℕ) (from : ℕ) (all cs : List ℕ) (end : ℕ) where
   pub record WritingOutputs (at k : ℕ) (list : List ℕ) : Type 0 where
     pub rest : List ℕ
     pub counted : k + length rest ≡ end
     pub inside : at ≤ length file
-    pub records : fileRecords (drop at file) ≡ map Output rest
+    pub records : fileRecords (drop at file) ≡ map Output rest ++ map Constraint cs
     pub below : AllBelow (2 * n) rest
     pub writing : Writing old from (map f all) list k (map f rest)
 
@@ -221,7 +227,7 @@ module _ (file : List ℕ) (n : ℕ) (f : ℕ → ℕ) (old : List ℕ) (from : 
   record NextOutput (at k : ℕ) (list : List ℕ) : Type 0 where
     reference : ℕ
     others : List ℕ
-    line : RecordAt file at (Output reference) (map Output others)
+    line : RecordAt file at (Output reference) (map Output others ++ map Constraint cs)
     counted : k + 1 + length others ≡ end
     bound : reference < 2 * n
     below : AllBelow (2 * n) others
@@ -230,16 +236,16 @@ module _ (file : List ℕ) (n : ℕ) (f : ℕ → ℕ) (old : List ℕ) (from : 
 output-formed : (r : ℕ) → Output r ≡ Malformed → ⊥
 output-formed r e = let z : _≡_ {A = ℕ} 0 1 = cc in omega arith
 
--- The outputs of the file from a place on.
+-- The outputs of the file from a place on, and its constraints.
 abbrev pub OutputsFrom : List ℕ → ℕ → List ℕ → List ℕ → ℕ → ℕ → ℕ → ℕ → List ℕ → Type 0
 OutputsFrom file start literals old from end at k list =
-    WritingOutputs file (length literals) (literalFor literals) old from (outputsIn (fileRecords (drop start file))) end at k list
+    WritingOutputs file (length literals) (literalFor literals) old from (outputsIn (fileRecords (drop start file))) (constraintsIn (fileRecords (drop start file))) end at k list
 
 pub outputs-begin :
     {file : List ℕ} {start count : ℕ} (literals old : List ℕ) (from : ℕ) → OutputsAhead file start count (length literals)
     → OutputsFrom file start literals old from (from + count) start from old
 outputs-begin literals old from o =
-    rw (o .records, outputs-in [] (o .references))
+    rw (o .records, outputs-in [] (o .references) (o .constraints), constraints-in [] (o .references) (o .constraints))
     (record {
       rest = o .references;
       counted = omega (arith, o .counted);
@@ -249,7 +255,7 @@ outputs-begin literals old from o =
       writing = writing-begins old from (map (literalFor literals) (o .references));
     })
 
-module _ {file : List ℕ} {n : ℕ} {f : ℕ → ℕ} {old : List ℕ} {from : ℕ} {all : List ℕ} {end at k : ℕ} {list : List ℕ} (w : WritingOutputs file n f old from all end at k list) where
+module _ {file : List ℕ} {n : ℕ} {f : ℕ → ℕ} {old : List ℕ} {from : ℕ} {all cs : List ℕ} {end at k : ℕ} {list : List ℕ} (w : WritingOutputs file n f old from all cs end at k list) where
   -- The last reference is passed.
   pub outputs-end : end ≤ k → list ≡ written old from (map f all)
   outputs-end last = writing-ends (rw none at (w .writing))
@@ -262,12 +268,12 @@ module _ {file : List ℕ} {n : ℕ} {f : ℕ → ℕ} {old : List ℕ} {from : 
           go (r ∷ rs) e = absurd (omega (arith, w .counted, ap length e))
 
   module _ (more : k < end) where
-    next-output : NextOutput file n f old from all end at k list
+    next-output : NextOutput file n f old from all cs end at k list
     next-output = go (w .rest) (w .counted) (w .records) (w .below) (w .writing)
       where
         go :
-            (rs : List ℕ) → k + length rs ≡ end → fileRecords (drop at file) ≡ map Output rs → AllBelow (2 * n) rs
-            → Writing old from (map f all) list k (map f rs) → NextOutput file n f old from all end at k list
+            (rs : List ℕ) → k + length rs ≡ end → fileRecords (drop at file) ≡ map Output rs ++ map Constraint cs → AllBelow (2 * n) rs
+            → Writing old from (map f all) list k (map f rs) → NextOutput file n f old from all cs end at k list
         go [] c r b h = absurd (omega arith)
         go (x ∷ rs) c r (netlist.AllBelow.next l b) h =
             record {
@@ -293,7 +299,7 @@ module _ {file : List ℕ} {n : ℕ} {f : ℕ → ℕ} {old : List ℕ} {from : 
     -- Its literal is written.
     pub outputs-next :
         (x : ℕ) → map f (outputsIn (recordOf (upTo 10 (drop at file)) ∷ [])) ≡ x ∷ [] → k < length list
-        → WritingOutputs file n f old from all end (at + length (upTo 10 (drop at file)) + 1) (k + 1) (set list k x)
+        → WritingOutputs file n f old from all cs end (at + length (upTo 10 (drop at file)) + 1) (k + 1) (set list k x)
     unfolding outputsIn
     outputs-next x e fits =
         let o = next-output in

@@ -1,4 +1,4 @@
-// One file into the graph: its gates asked for, its outputs as literals of the graph.
+// One file into the graph: its gates asked for, its outputs and its constraint as literals of the graph.
 use aig::literal::Literal;
 use load_graph::Counts;
 use netlist_model::Record;
@@ -10,7 +10,7 @@ ghost use Rattle.load_model.specs.Build.{askGates, literalFor};
 ghost use Rattle.load_model.specs.Load.{maxVertices};
 ghost use Rattle.load_graph.specs.code.Slices.{Graph, buildOf};
 ghost use Rattle.load_model.specs.code.Paired.{buildFrom};
-ghost use Rattle.load_file.specs.code.File.{GateLine, GatesAhead, GatesPassed, OutputLine, OutputsAhead, lineGates, trace};
+ghost use Rattle.load_file.specs.code.File.{GateLine, GatesAhead, GatesPassed, OutputLine, OutputsAhead, lineGates, trace, withConstraint};
 ghost use Rattle.netlist_model.specs.code.Accepted.{HoldsNetlist, netlistOf};
 ghost use Rattle.netlist_model.specs.Check.{outputsIn};
 ghost use Rattle.netlist_model.specs.Records.{recordOf};
@@ -28,7 +28,8 @@ pub struct Passed {
     pub counts: Counts,
 }
 
-// Loads a file into the graph, the literals of its first vertices being there, and writes its output literals from a place of `outputs` on.
+// Loads a file into the graph, the literals of its first vertices being there, and writes its output literals and then that of its constraint
+// from a place of `outputs` on.
 pub fn load_file(
     file: &[u8],
     summary: Summary,
@@ -41,9 +42,9 @@ pub fn load_file(
 ) -> Counts
     requires file { ⌜ HoldsNetlist (now file) summary (netlistOf (now file) summary) ⌝ }
     requires graph { ⌜ Graph (now pairs) (now look) counts ⌝ }
-    requires room { ⌜ (counts .asked + summary .ands ≤ maxAnds) × (2 * maxVertices ≤ length (now literals)) × (from + maxOutputs ≤ length (now outputs)) ⌝ }
+    requires room { ⌜ (counts .asked + summary .ands ≤ maxAnds) × (2 * maxVertices ≤ length (now literals)) × (from + maxOutputs + 1 ≤ length (now outputs)) ⌝ }
     ensures result { λ r. ⌜ buildOf (now (pairs .exit)) r ≡ buildFrom (take (1 + summary .inputs) (now (literals .entry))) (buildOf (now (pairs .entry)) counts) (netlistOf (now (file .entry)) summary) .build ⌝ }
-    ensures outputs { λ _. ⌜ now (outputs .exit) ≡ written (now (outputs .entry)) from (buildFrom (take (1 + summary .inputs) (now (literals .entry))) (buildOf (now (pairs .entry)) counts) (netlistOf (now (file .entry)) summary) .outputs) ⌝ }
+    ensures outputs { λ _. ⌜ now (outputs .exit) ≡ written (now (outputs .entry)) from (withConstraint (buildFrom (take (1 + summary .inputs) (now (literals .entry))) (buildOf (now (pairs .entry)) counts) (netlistOf (now (file .entry)) summary))) ⌝ }
     ensures graph { λ r. ⌜ Graph (now (pairs .exit)) (now (look .exit)) r ⌝ }
 {
     let first = 1 + summary.inputs;
@@ -65,6 +66,9 @@ pub fn load_file(
         outputs,
         from,
     );
+    let last = from + summary.outputs as usize;
+    let constraint = literal_for(&literals[..], summary.reference);
+    outputs[last] = constraint.0;
     passed.counts
 }
 

@@ -14,6 +14,7 @@ use Rattle.load_model.specs.code.Valued.{operandsOf}
 use Rattle.netlist_model.specs.Meaning.{andsFrom, fileAnds, operationFunction}
 use Rattle.netlist_model.specs.Netlist.{Netlist}
 use Rattle.table.proofs.FunctionLaws.{length-first-functions}
+use Rattle.table.proofs.LayoutLaws.{map-at}
 use Rattle.table.proofs.MeaningLaws.{row-value}
 use Rattle.table.specs.Accepted.{Downward, RowBelow}
 use Rattle.table.specs.Table.{Graph, firstFunctions, functionsOf}
@@ -28,13 +29,8 @@ use Rattle.truth.specs.Truth.{Truth, conj, constantly, invert, leaf}
 use lib.ListN.{getD, length, length-map}
 use mathlib.Core.Bool.{false, true}
 use mathlib.Core.List.{List, [], _++_, _∷_, map}
-use mathlib.Core.Path.{_∙_, _≡_, ap, refl, subst₂, sym}
+use mathlib.Core.Path.{_∙_, _≡_, ap, subst₂, sym}
 use native.Mathlib.Omega.{arith}
-
-getD-map : {A B : Type 0} (f : A → B) (xs : List A) (i : ℕ) (x : A) (z : B) → i < length xs → getD (map f xs) i z ≡ f (getD xs i x)
-getD-map f [] i x z h = absurd (omega arith)
-getD-map f (y ∷ xs) zero x z h = refl
-getD-map f (y ∷ xs) (suc i) x z h = getD-map f xs i x z (omega arith)
 
 length-operands : (g : Graph) → length (rowOperands g) ≡ length (g .rows)
 unfolding rowOperands
@@ -49,10 +45,10 @@ row-function g down i z h =
     let falsum : Truth = constantly (g .inputs) false in
     let below : RowBelow (2 * (length (firstFunctions (g .inputs)) + i)) (getD (g .rows) i (0, 0)) = rw n (down i h) in
     rw (← n) (row-value invert conj falsum (firstFunctions (g .inputs)) (g .rows) i h below)
-    ∙ ap andOf (sym (getD-map (operandsOf invert conj falsum (functionsOf g)) (g .rows) i (0, 0) z h))
+    ∙ ap andOf (sym (map-at (operandsOf invert conj falsum (functionsOf g)) (g .rows) i z (0, 0) h))
 
 -- Each of some ANDs is among their functions.
-and-among : (xs : List (Truth × Truth)) (k : ℕ) (z : Truth × Truth) → k < length xs → among alike? (andOf (getD xs k z)) (map andOf xs) ≡ true
+pub and-among : (xs : List (Truth × Truth)) (k : ℕ) (z : Truth × Truth) → k < length xs → among alike? (andOf (getD xs k z)) (map andOf xs) ≡ true
 unfolding among
 and-among [] k z h = absurd (omega arith)
 and-among (x ∷ xs) zero z h = or-left (alike? (andOf x) (andOf x)) (among alike? (andOf x) (map andOf xs)) (alike-sameness .reflexive (andOf x))

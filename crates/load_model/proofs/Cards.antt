@@ -5,7 +5,7 @@ use Rattle.aig.specs.Lookup.{firstVertex, ownWords}
 use Rattle.load_model.specs.Build.{askAnd, askGate, askGates, askXor, buildFile, buildPair, emptyBuild, foldedOrNot, foundOrMade, literalsFrom}
 use Rattle.load_model.specs.Cards.{Loading, andFile, falseFile, namedAnd, orFile, turnedAnd, xorFile}
 use Rattle.load_model.specs.Load.{countsDiffer?, loadResult, readResult, readSecond, shortSlice?, tableAfter, tableOf, tableWords, tallyOf}
-use Rattle.netlist_model.specs.Check.{below?, checkFile, checkFrom, due?, dueAfter, finish, formed?, gatesIn, header?, known?, limited?, more?, namesIn, outputsIn, read, readBy, readNetlist, twice?}
+use Rattle.netlist_model.specs.Check.{below?, checkFile, checkFrom, constraintsIn, due?, dueAfter, finish, formed?, gatesIn, header?, known?, limited?, more?, namesIn, outputsIn, read, readBy, readNetlist, twice?}
 use Rattle.netlist_model.specs.Meaning.{andCount}
 use Rattle.netlist_model.specs.Names.{firstLacked, nameCount, placeOf}
 use Rattle.netlist_model.specs.Netlist.{Netlist}
@@ -24,10 +24,10 @@ use mathlib.Core.Path.{_≡_, refl}
 -- The files, read.
 abbrev oneGate : Operation → ℕ → ℕ → ℕ → Netlist
 oneGate op p q r =
-    record { edition = 1; inputs = 2; names = []; gates = record { op = op; p = p; q = q } ∷ []; outputs = r ∷ [] }
+    record { edition = 1; inputs = 2; names = []; gates = record { op = op; p = p; q = q } ∷ []; outputs = r ∷ []; constraints = [] }
 
 abbrev noGate : Netlist
-noGate = record { edition = 1; inputs = 2; names = []; gates = []; outputs = 0 ∷ [] }
+noGate = record { edition = 1; inputs = 2; names = []; gates = []; outputs = 0 ∷ []; constraints = [] }
 
 abbrev named : ℕ → ℕ → ℕ → ℕ → Netlist
 named x y p q =
@@ -37,6 +37,7 @@ named x y p q =
       names = (x ∷ []) ∷ (y ∷ []) ∷ [];
       gates = record { op = And; p = p; q = q } ∷ [];
       outputs = 6 ∷ [];
+      constraints = [];
     }
 
 record FilesRead : Type 0 where
@@ -48,7 +49,7 @@ record FilesRead : Type 0 where
   turned-file : readNetlist (Second 2) turnedAnd ≡ read (named 98 97 3 4)
 
 reads : FilesRead
-unfolding dueAfter below? checkFile checkFrom due? finish firstRefusal formed? gatesIn header? known? limited? more? nameCount namesIn outputsIn placeOf readBy readNetlist twice? digitsFrom numeralOf fieldsRecord fileLines lineOf partLines name? operationOf recordOf unended
+unfolding dueAfter below? checkFile checkFrom constraintsIn due? finish firstRefusal formed? gatesIn header? known? limited? more? nameCount namesIn outputsIn placeOf readBy readNetlist twice? digitsFrom numeralOf fieldsRecord fileLines lineOf partLines name? operationOf recordOf unended
 reads = record { xor-file = refl; false-file = refl; and-file = refl; or-file = refl; named-file = refl; turned-file = refl }
 
 -- The second files in the first ones' order.
@@ -67,18 +68,21 @@ record Built : Type 0 where
       ≡ record {
         left = 0 ∷ [];
         right = 0 ∷ [];
+        constraint = 1;
         build = record { words = 0 ∷ 0 ∷ 2 ∷ 2 ∷ 4 ∷ 4 ∷ []; count = 3; asked = 3; folded = 3; found = 0 };
       }
   and-or-built : buildPair (oneGate And 2 4 6) (oneGate Or 3 5 7)
       ≡ record {
         left = 6 ∷ [];
         right = 6 ∷ [];
+        constraint = 1;
         build = record { words = 0 ∷ 0 ∷ 2 ∷ 2 ∷ 4 ∷ 4 ∷ 2 ∷ 4 ∷ []; count = 4; asked = 2; folded = 0; found = 1 };
       }
   named-built : buildPair (named 97 98 2 5) (named 97 98 5 2)
       ≡ record {
         left = 6 ∷ [];
         right = 6 ∷ [];
+        constraint = 1;
         build = record { words = 0 ∷ 0 ∷ 2 ∷ 2 ∷ 4 ∷ 4 ∷ 2 ∷ 5 ∷ []; count = 4; asked = 2; folded = 0; found = 1 };
       }
 

@@ -76,7 +76,7 @@ load-accepts {d} {e} h r left right =
       first = d;
       second = e;
       first-read = read-back First d (h .left) tt;
-      second-read = read-back (Second (d .edition)) e (h .right) (sym (h .edition));
+      second-read = read-back (Second (d .edition)) e (h .right) (record { edition = sym (h .edition); constraints = h .unconstrained });
       first-length = left;
       second-length = right;
       loadable = h;
@@ -160,10 +160,11 @@ load-only left right room x t h =
               record {
                 left = read-only First left d f .1;
                 right = right-read .1;
-                edition = sym (right-read .2);
+                edition = sym (right-read .2 .edition);
                 inputs = agreed .0;
                 outputs = agreed .1;
                 names = none-lacked (d .names) (c .names) (ltb-false (firstLacked (d .names) (c .names)) (length (c .names)) (q .0 .1 .0));
+                unconstrained = right-read .2 .constraints;
                 ands = ltb-false maxAnds (andCount (d .gates) + andCount (c .gates)) (q .0 .1 .1 .0);
               };
           enough = slices-sufficed room (ltb-false (room .table) maxTable (q .0 .1 .1 .1 .0)) (q .0 .1 .1 .1 .1 .0);

@@ -90,21 +90,21 @@ module _ {left right : List ℕ} {d e : Netlist} (room : LoadRoom) (h : BothRead
       ands-exceed a = all-read ∙ (rw (counts-same, names-suffice d e named, lt-ltb maxAnds (andCount (d .gates) + andCount (e .gates)) a) refl)
 
       module _ (few : andCount (d .gates) + andCount (e .gates) ≤ 6144) where
-        -- "9. The table is shorter than 12,419 words.", whatever the working slices.
-        pub table-short : room .table < 12419 → loadResult left right room ≡ refused 9 0 0
+        -- "9. The table is shorter than 12,420 words.", whatever the working slices.
+        pub table-short : room .table < 12420 → loadResult left right room ≡ refused 9 0 0
         unfolding readResult firstRefusal
         table-short t =
             all-read
             ∙ (rw (counts-same, names-suffice d e named, le-ltb maxAnds (andCount (d .gates) + andCount (e .gates)) few, lt-ltb (room .table) maxTable t) refl)
 
-        slice-told : 12419 ≤ room .table → shortSlice? room ≡ true → loadResult left right room ≡ refused 14 0 0
+        slice-told : 12420 ≤ room .table → shortSlice? room ≡ true → loadResult left right room ≡ refused 14 0 0
         unfolding readResult firstRefusal
         slice-told t s =
             all-read
             ∙ (rw (counts-same, names-suffice d e named, le-ltb maxAnds (andCount (d .gates) + andCount (e .gates)) few, le-ltb (room .table) maxTable t, s) refl)
 
         -- "14. A working slice is short: four slices of 2 words a vertex (load: for 6,209 vertices)"
-        pub slice-short : 12419 ≤ room .table
+        pub slice-short : 12420 ≤ room .table
             → (room .pairs < 12418) ⊎ (room .look < 12418) ⊎ (room .literals < 12418) ⊎ (room .outputs < 12418)
             → loadResult left right room ≡ refused 14 0 0
         unfolding shortSlice?

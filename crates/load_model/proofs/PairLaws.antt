@@ -9,7 +9,7 @@ use Rattle.load_model.specs.code.Good.{Good}
 use Rattle.load_model.specs.code.Grown.{Ready, Step}
 use Rattle.load_model.specs.Load.{tallyOf}
 use Rattle.netlist_model.specs.Meaning.{andCount}
-use Rattle.netlist_model.specs.Netlist.{Netlist}
+use Rattle.netlist_model.specs.Netlist.{Netlist, constraintReference}
 use lib.ListN.{getD, length, length-map}
 use mathlib.Core.List.{List, [], _∷_, map}
 use mathlib.Core.Path.{_≡_, refl, subst, sym}
@@ -65,6 +65,11 @@ module _ {n : ℕ} {b : Build} (g : Good n b) (d : Netlist) (e : d .inputs ≡ n
       go (r ∷ rs) zero = literal-for-below ready r
       go (r ∷ rs) (suc k) = go rs k
 
+  -- So is its constraint.
+  pub file-constraint-below : buildFile b d .constraint < 2 * buildFile b d .build .count
+  unfolding buildFile
+  file-constraint-below = literal-for-below (gates-ready start-ready (d .gates)) (constraintReference d)
+
 -- The first file, into whose graph the second is loaded.
 abbrev pub leftBuilt : Netlist → FileBuilt
 leftBuilt d = buildFile (emptyBuild (d .inputs)) d
@@ -92,10 +97,15 @@ module _ (d e : Netlist) (same : d .inputs ≡ e .inputs) where
   unfolding buildPair
   left-below k = step-below right-step (file-below (empty-good (d .inputs)) d refl k)
 
-  -- and those of the second.
+  -- those of the second,
   pub right-below : (k : ℕ) → getD (buildPair d e .right) k 0 < 2 * buildPair d e .build .count
   unfolding buildPair
   right-below k = file-below (left-step .good) e (sym same) k
+
+  -- and the constraint.
+  pub constraint-below : buildPair d e .constraint < 2 * buildPair d e .build .count
+  unfolding buildPair
+  constraint-below = step-below right-step (file-constraint-below (empty-good (d .inputs)) d refl)
 
   -- All ANDs are asked for,
   pub pair-asked : buildPair d e .build .asked ≡ andCount (d .gates) + andCount (e .gates)

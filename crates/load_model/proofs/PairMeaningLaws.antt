@@ -7,7 +7,7 @@ use Rattle.load_model.specs.Build.{Build, Traced, askGates, buildFile, b
 use Rattle.load_model.specs.code.Good.{Good}
 use Rattle.load_model.specs.code.Valued.{Begins, Follows, Origin, PairMeans, StandsFor, Valuation, Valued}
 use Rattle.netlist_model.specs.Meaning.{andsFrom, vertexResults}
-use Rattle.netlist_model.specs.Netlist.{Netlist}
+use Rattle.netlist_model.specs.Netlist.{Netlist, constraintReference}
 use Rattle.netlist_model.specs.declared.Operation.{Operation}
 use lib.ListN.{List·getD-eq-default, getD, length}
 use mathlib.Core.List.{List, [], _∷_, map}
@@ -49,11 +49,13 @@ module _ {A : Type 0} {Sound : A → Type 0} {invert : A → A} {both : A → A 
           let m : length us ≤ i = omega (arith, begins .count) in
           ap (literalValue invert both falsum vs) (List·getD-eq-default (literalsFrom 0 (1 + n)) 0 l) ∙ val .constant ∙ sym (List·getD-eq-default us falsum m)
 
-  -- The outputs of a file have its values, and its rows come from its ANDs.
+  -- The outputs and the constraint of a file have its values, and its rows come from its ANDs.
   record FileMeans (b : Build) (d : Netlist) : Type 0 where
     outputs : (k : ℕ) → k < length (d .outputs)
         → literalValue invert both falsum vs (getD (buildFile b d .outputs) k 0)
         ≡ literalValue invert both falsum (vertexResults invert both falsum operation us (d .gates)) (getD (d .outputs) k 0)
+    constraint : literalValue invert both falsum vs (buildFile b d .constraint)
+        ≡ literalValue invert both falsum (vertexResults invert both falsum operation us (d .gates)) (constraintReference d)
     origin : Origin invert both falsum vs b (buildFile b d .build) (andsFrom invert both falsum operation us (d .gates))
 
   file-means : {b : Build} → Good n b → (d : Netlist) → n ≡ d .inputs → Valued invert both falsum vs n (buildFile b d .build) → FileMeans b d
@@ -61,7 +63,11 @@ module _ {A : Type 0} {Sound : A → Type 0} {invert : A → A} {both : A → A 
   file-means {b} g d e w =
       let f : Follows invert both falsum vs (fileStart b (d .inputs)) us = subst (λ (m : ℕ). Follows invert both falsum vs (fileStart b m) us) e (start-follows b) in
       let m = gates-mean val operation same (start-ready g d (sym e)) f (d .gates) w in
-      record { outputs = outputs-mean (askGates (fileStart b (d .inputs)) (d .gates)) (m .0) (d .outputs); origin = m .1 }
+      record {
+        outputs = outputs-mean (askGates (fileStart b (d .inputs)) (d .gates)) (m .0) (d .outputs);
+        constraint = literal-for-means val (m .0) (constraintReference d);
+        origin = m .1;
+      }
     where
       outputs-mean : (t : Traced) {xs : List A} → Follows invert both falsum vs t xs → (rs : List ℕ) (k : ℕ) → k < length rs
           → literalValue invert both falsum vs (getD (map (literalFor (t .literals)) rs) k 0) ≡ literalValue invert both falsum xs (getD rs k 0)
@@ -79,4 +85,4 @@ module _ {A : Type 0} {Sound : A → Type 0} {invert : A → A} {both : A → A 
       let s = left-step d e inputs in
       let m = file-means val same begins (empty-good (d .inputs)) d refl (valued-before val (s .good) (right-step d e inputs) w) in
       let k = file-means val same begins (s .good) e inputs w in
-      record { left = m .outputs; right = k .outputs; origin = origin-then val (m .origin) (k .origin) }
+      record { left = m .outputs; right = k .outputs; constraint = m .constraint; origin = origin-then val (m .origin) (k .origin) }

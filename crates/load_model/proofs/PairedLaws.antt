@@ -34,6 +34,7 @@ loadable-paired {d} {e} h =
       inputs = h .inputs;
       outputs = h .outputs ∙ sym (paired-outputs d e);
       names = λ name a. a;
+      unconstrained = ap (map (referenceFor d e)) (h .unconstrained);
       ands = omega (arith, h .ands, paired-ands d e);
     }
 
@@ -67,12 +68,18 @@ module _ {d e : Netlist} (m : Matched d e) where
       (ap₂ (askGate b (g .op)) (literal-alike a (g .p)) (literal-alike a (g .q)))
       (gates-alike (alike-next m a (x .literal)) (x .build) gs)
 
+  constraint-alike : {us vs : List ℕ} → Alike m 0 us vs → (rs : List ℕ)
+      → literalFor us (getD rs 0 1) ≡ literalFor vs (getD (map (referenceFor d e) rs) 0 1)
+  unfolding referenceFor
+  constraint-alike a [] = literal-alike a 1
+  constraint-alike a (r ∷ rs) = literal-alike a r
+
   -- The file loaded with literals in its own order is the paired file loaded by place.
   pub built-paired : {us : List ℕ} → Alike m 0 us (literalsFrom 0 (1 + e .inputs)) → (b : Build) → buildFrom us b e ≡ buildFile b (paired d e)
   unfolding buildFrom buildFile paired
   built-paired {us} a b =
       let both = gates-alike a b (e .gates) in
-      ap₂ (λ (os : List ℕ) (c : Build). record { outputs = os; build = c }) (outputs-alike (both .alike) (e .outputs)) (both .build)
+      rw (outputs-alike (both .alike) (e .outputs), constraint-alike (both .alike) (e .constraints), both .build) refl
     where
       outputs-alike : {us vs : List ℕ} → Alike m 0 us vs → (rs : List ℕ) → map (literalFor us) rs ≡ map (literalFor vs) (map (referenceFor d e) rs)
       outputs-alike a [] = refl

@@ -4,7 +4,7 @@ use Rattle.aig.proofs.OwnLaws.{length-own}
 use Rattle.aig.specs.Fold.{Unfolded}
 use Rattle.aig.specs.Lookup.{firstWord, ownWords, secondWord}
 use Rattle.load_model.proofs.GrownLaws.{length-row-words, pairs-row-words}
-use Rattle.load_model.proofs.PairLaws.{left-below, length-left, length-right, pair-asked, pair-good, pair-step, right-below}
+use Rattle.load_model.proofs.PairLaws.{constraint-below, left-below, length-left, length-right, pair-asked, pair-good, pair-step, right-below}
 use Rattle.load_model.specs.Build.{Build, PairBuilt, buildPair, emptyBuild}
 use Rattle.load_model.specs.code.Good.{Good, Row}
 use Rattle.load_model.specs.code.Grown.{Grown, rowWords, rowsAfter}
@@ -14,51 +14,60 @@ use Rattle.netlist_model.specs.Netlist.{Netlist}
 use Rattle.table.proofs.LayoutLaws.{length-pairs, pairs-at}
 use Rattle.table.specs.Accepted.{Accepted, Downward}
 use Rattle.table.specs.Limits.{maxAnds, maxInputs, maxOutputs}
-use Rattle.table.specs.Table.{graphOf, outputWords, pairs, rowAt, rowsOf, sideOutputs}
+use Rattle.table.specs.Table.{constraintOf, graphOf, inputsOf, outputWords, pairs, rowAt, rowsOf, sideOutputs}
 use Rattle.table.specs.Values.{Pair}
 use lib.ListN.{drop, getD, length, length-append, length-drop}
-use lib.Seq.{drop-append-seam, drop-at, take-all, take-append-add, take-append-seam}
+use lib.Seq.{drop-append-seam, drop-at, getD-append-add, getD-append-seam, take-all, take-append-add, take-append-seam}
 use mathlib.Core.List.{List, [], _++_, _∷_, append-assoc, append-nil}
-use mathlib.Core.Path.{_∙_, _≡_, ap, sym}
+use mathlib.Core.Path.{_∙_, _≡_, ap, refl, sym}
 use native.Mathlib.Omega.{arith}
 
 -- A table with its words in place.
-abbrev laid : ℕ → List Pair → List ℕ → List ℕ → List ℕ → List ℕ
-laid n rs left right rest = n ∷ length rs ∷ length left ∷ (rowWords rs ++ (left ++ (right ++ rest)))
+abbrev laid : ℕ → List Pair → List ℕ → List ℕ → ℕ → List ℕ → List ℕ
+laid n rs left right r rest = n ∷ length rs ∷ length left ∷ (rowWords rs ++ (left ++ (right ++ (r ∷ rest))))
 
-module _ (n : ℕ) (rs : List Pair) (left right rest : List ℕ) (same : length right ≡ length left) where
-  laid-rows : rowsOf (laid n rs left right rest) ≡ rs
+module _ (n : ℕ) (rs : List Pair) (left right : List ℕ) (r : ℕ) (rest : List ℕ) (same : length right ≡ length left) where
+  laid-rows : rowsOf (laid n rs left right r rest) ≡ rs
   unfolding rowsOf
-  laid-rows = pairs-row-words rs (left ++ (right ++ rest))
+  laid-rows = pairs-row-words rs (left ++ (right ++ (r ∷ rest)))
 
-  laid-outputs : outputWords (laid n rs left right rest) ≡ left ++ right
+  laid-outputs : outputWords (laid n rs left right r rest) ≡ left ++ right
   unfolding outputWords
   laid-outputs =
       let e : 3 + 2 * length rs ≡ suc (suc (suc (length (rowWords rs)))) = omega (arith, length-row-words rs) in
       let f : 2 * length left ≡ length left + length right = omega arith in
-      rw (e, drop-append-seam (rowWords rs) (left ++ (right ++ rest)), f, take-append-add left (right ++ rest) (length right))
-      (ap (_++_ left) (take-append-seam right rest))
+      rw (e, drop-append-seam (rowWords rs) (left ++ (right ++ (r ∷ rest))), f, take-append-add left (right ++ (r ∷ rest)) (length right))
+      (ap (_++_ left) (take-append-seam right (r ∷ rest)))
 
-  laid-graph : graphOf (laid n rs left right rest) ≡ record { inputs = n; rows = rs; left = left; right = right }
+  laid-constraint : constraintOf (laid n rs left right r rest) ≡ r
+  laid-constraint =
+      let e : 3 + 2 * length rs + 2 * length left ≡ suc (suc (suc (length (rowWords rs) + (length left + length right)))) =
+      omega (arith, length-row-words rs) in
+      rw e
+      (getD-append-add (rowWords rs) (left ++ (right ++ (r ∷ rest))) (length left + length right) 0
+      ∙ getD-append-add left (right ++ (r ∷ rest)) (length right) 0
+      ∙ getD-append-seam right r rest 0)
+
+  laid-graph : graphOf (laid n rs left right r rest) ≡ record { inputs = n; rows = rs; left = left; right = right }
   unfolding graphOf sideOutputs
   laid-graph =
       let le : length right ≤ length left = omega arith in
       rw (laid-rows, laid-outputs, take-append-seam left right, drop-append-seam left right, take-all (length left) right le)
 
-  length-laid : length (laid n rs left right rest) ≡ 3 + 2 * length rs + 2 * length left + length rest
+  length-laid : length (laid n rs left right r rest) ≡ 3 + 2 * length rs + 2 * length left + 1 + length rest
   length-laid =
       omega (
         arith,
-        length-append (rowWords rs) (left ++ (right ++ rest)),
-        length-append left (right ++ rest),
-        length-append right rest,
+        length-append (rowWords rs) (left ++ (right ++ (r ∷ rest))),
+        length-append left (right ++ (r ∷ rest)),
+        length-append right (r ∷ rest),
         length-row-words rs,
       )
 
   laid-accepted : n ≤ maxInputs → length rs ≤ maxAnds → 1 ≤ length left → length left ≤ maxOutputs → Downward (1 + n) rs
-      → ((k : ℕ) → getD left k 0 < 2 * (1 + n + length rs)) → ((k : ℕ) → getD right k 0 < 2 * (1 + n + length rs))
-      → Accepted (laid n rs left right rest)
-  laid-accepted inputs made some outputs down below-left below-right =
+      → ((k : ℕ) → getD left k 0 < 2 * (1 + n + length rs)) → ((k : ℕ) → getD right k 0 < 2 * (1 + n + length rs)) → r < 2 * (1 + n + length rs)
+      → Accepted (laid n rs left right r rest)
+  laid-accepted inputs made some outputs down below-left below-right below-constraint =
       record {
         formed =
             record {
@@ -71,6 +80,7 @@ module _ (n : ℕ) (rs : List Pair) (left right rest : List ℕ) (same : length 
             };
         rows = rw laid-rows down;
         references = rw laid-outputs (λ k h. getD-both left right k below-left below-right);
+        constraint = rw laid-constraint below-constraint;
       }
     where
       getD-both : (xs ys : List ℕ) (k : ℕ) → ((k : ℕ) → getD xs k 0 < 2 * (1 + n + length rs)) → ((k : ℕ) → getD ys k 0 < 2 * (1 + n + length rs))
@@ -131,18 +141,25 @@ module _ {n : ℕ} {b : Build} (g : Good n b) where
 
 -- A table that is written with the words of a graph.
 words-laid : (n : ℕ) (p : PairBuilt) {rs : List Pair} → Grown (emptyBuild n) rs (p .build) → (rest : List ℕ)
-    → tableWords n p ++ rest ≡ laid n rs (p .left) (p .right) rest
+    → tableWords n p ++ rest ≡ laid n rs (p .left) (p .right) (p .constraint) rest
 unfolding tableWords
 words-laid n p {rs} g rest =
     rw (made-count n g, made-words n g)
     (ap (λ (ws : List ℕ). n ∷ length rs ∷ length (p .left) ∷ ws)
-    (append-assoc (rowWords rs) (p .left ++ p .right) rest ∙ ap (_++_ (rowWords rs)) (append-assoc (p .left) (p .right) rest)))
+    (append-assoc (rowWords rs) (p .left ++ (p .right ++ (p .constraint ∷ []))) rest
+    ∙ ap (_++_ (rowWords rs))
+    (append-assoc (p .left) (p .right ++ (p .constraint ∷ [])) rest ∙ ap (_++_ (p .left)) (append-assoc (p .right) (p .constraint ∷ []) rest))))
+
+-- The inputs of a table after a load are those of the first file.
+pub table-inputs : (d e : Netlist) (old : List ℕ) → inputsOf (tableOf d e old) ≡ d .inputs
+unfolding tableOf tableWords
+table-inputs d e old = refl
 
 module _ (d e : Netlist) (inputs : d .inputs ≡ e .inputs) (old : List ℕ) where
   -- "The lent table .. then holds": its words in place.
   table-laid : tableOf d e old
       ≡ laid (d .inputs) (rowsAfter (d .inputs) (buildPair d e .build)) (buildPair d e .left) (buildPair d e .right)
-      (drop (length (tableWords (d .inputs) (buildPair d e))) old)
+      (buildPair d e .constraint) (drop (length (tableWords (d .inputs) (buildPair d e))) old)
   unfolding tableOf
   table-laid =
       let s = pair-step d e inputs in
@@ -164,7 +181,14 @@ module _ (d e : Netlist) (inputs : d .inputs ≡ e .inputs) (old : List ℕ) whe
     table-graph =
         rw table-laid
         (laid-graph (d .inputs) (rowsAfter (d .inputs) (buildPair d e .build)) (buildPair d e .left) (buildPair d e .right)
-        (drop (length (tableWords (d .inputs) (buildPair d e))) old) same-length)
+        (buildPair d e .constraint) (drop (length (tableWords (d .inputs) (buildPair d e))) old) same-length)
+
+    -- Its constraint is that of the first file.
+    pub table-constraint : constraintOf (tableOf d e old) ≡ buildPair d e .constraint
+    table-constraint =
+        rw table-laid
+        (laid-constraint (d .inputs) (rowsAfter (d .inputs) (buildPair d e .build)) (buildPair d e .left) (buildPair d e .right)
+        (buildPair d e .constraint) (drop (length (tableWords (d .inputs) (buildPair d e))) old) same-length)
 
     -- Its rows do not fold,
     pub table-unfolded : (i : ℕ) → i < length (loadedGraph d e old .rows)
@@ -195,12 +219,13 @@ module _ (d e : Netlist) (h : Loadable d e) (old : List ℕ) where
   unfolding rs
   table-accepted =
       rw (table-laid d e (h .inputs) old)
-      (laid-accepted (d .inputs) rs (buildPair d e .left) (buildPair d e .right)
+      (laid-accepted (d .inputs) rs (buildPair d e .left) (buildPair d e .right) (buildPair d e .constraint)
       (drop (length (tableWords (d .inputs) (buildPair d e))) old) (same-length d e (h .inputs) old (h .outputs))
       (h .left .inputs) rows-bound
       (omega (arith, length-left d e, h .left .some)) (omega (arith, length-left d e, h .left .outputs))
       (rows-downward (pair-good d e (h .inputs)))
-      (rw vertices (left-below d e (h .inputs))) (rw vertices (right-below d e (h .inputs))))
+      (rw vertices (left-below d e (h .inputs))) (rw vertices (right-below d e (h .inputs)))
+      (rw vertices (constraint-below d e (h .inputs))))
 
   -- It is as long as it was.
   pub length-table : maxTable ≤ length old → length (tableOf d e old) ≡ length old
@@ -208,12 +233,12 @@ module _ (d e : Netlist) (h : Loadable d e) (old : List ℕ) where
   length-table fits =
       let ws : List ℕ = tableWords (d .inputs) (buildPair d e) in
       let s = pair-step d e (h .inputs) in
-      let l : length ws ≡ 3 + 2 * length rs + 2 * length (buildPair d e .left) =
+      let l : length ws ≡ 3 + 2 * length rs + 2 * length (buildPair d e .left) + 1 =
       omega (
         arith,
         ap length (append-nil ws),
         ap length (words-laid (d .inputs) (buildPair d e) (s .grown) []),
-        length-laid (d .inputs) (s .rows) (buildPair d e .left) (buildPair d e .right) [] (same-length d e (h .inputs) old (h .outputs)),
+        length-laid (d .inputs) (s .rows) (buildPair d e .left) (buildPair d e .right) (buildPair d e .constraint) [] (same-length d e (h .inputs) old (h .outputs)),
         ap length (grown-rows (d .inputs) (s .grown)),
       ) in
       rw (length-append ws (drop (length ws) old), length-drop (length ws) old)

@@ -1,26 +1,27 @@
--- Each output of the table has its file's value on every setting, and its file's function.
+-- Each output of the table has its file's value on every setting, and its file's function; so has the constraint.
 use Prim.Native.Nat.{_*_, _+_, _-_, _<_, ℕ}
 use Rattle.aig.proofs.TruthLaws.{functions}
 use Rattle.aig.proofs.ValuesLaws.{bits}
 use Rattle.aig.specs.Lookup.{firstWord, secondWord}
+use Rattle.aig.specs.Values.{literalValue}
 use Rattle.load_model.proofs.PairLaws.{pair-good}
 use Rattle.load_model.proofs.PairMeaningLaws.{pair-means}
-use Rattle.load_model.proofs.TableLaws.{length-rows-after, row-after, rows-downward, table-graph}
+use Rattle.load_model.proofs.TableLaws.{length-rows-after, row-after, rows-downward, table-constraint, table-graph, table-inputs}
 use Rattle.load_model.specs.Build.{Build, buildPair}
 use Rattle.load_model.specs.code.Good.{Good}
 use Rattle.load_model.specs.code.Grown.{rowsAfter}
-use Rattle.load_model.specs.Load.{loadedGraph}
+use Rattle.load_model.specs.Load.{loadedGraph, tableOf}
 use Rattle.load_model.specs.code.Valued.{Begins, PairMeans, StandsFor, Valuation, Valued}
 use Rattle.netlist_model.proofs.ValueLaws.{function-from-ands, value-from-ands}
-use Rattle.netlist_model.specs.Meaning.{fileValue, operationFunction}
+use Rattle.netlist_model.specs.Meaning.{allowed?, constraintFunction, fileFunction, fileValue, operationFunction, vertexResults}
 use Rattle.netlist_model.specs.Netlist.{Netlist}
 use Rattle.netlist_model.specs.declared.Operation.{Operation}
 use Rattle.table.proofs.FunctionLaws.{first-function-false, first-functions-perfect, length-first-functions}
 use Rattle.table.proofs.MeaningLaws.{row-value, value-kept, values-good}
 use Rattle.table.specs.Accepted.{RowBelow}
-use Rattle.table.specs.Table.{firstFunctions, outputValue, outputs, valuesOn}
+use Rattle.table.specs.Table.{constraintOf, firstFunctions, functionsOf, inputsOf, outputFunction, outputValue, outputs, valuesOn}
 use Rattle.table.specs.Values.{rowValue, vertexValues}
-use Rattle.truth.specs.Truth.{Perfect, Setting, conj, constantly, invert}
+use Rattle.truth.specs.Truth.{Perfect, Setting, Truth, conj, constantly, invert}
 use lib.ListN.{getD, length}
 use mathlib.Core.Bool.{Bool, _&&_, false, not}
 use mathlib.Core.List.{List, _∷_}
@@ -96,3 +97,35 @@ module _ (d e : Netlist) (inputs : d .inputs ≡ e .inputs) where
     unfolding outputValue outputs valuesOn fileValue
     right-value k s l h =
         rw (table-graph d e inputs old counts) (graph-means (bit-valuation s) value-from-ands d e (omega arith) inputs .right k l)
+
+    -- The outputs have the files' functions too.
+    pub left-function : (k : ℕ) → k < length (d .outputs) → outputFunction (loadedGraph d e old) 1 k ≡ fileFunction d k
+    unfolding outputFunction outputs functionsOf fileFunction
+    left-function k l = rw (table-graph d e inputs old counts) (functions-mean .left k l)
+
+    pub right-function : (k : ℕ) → k < length (e .outputs) → outputFunction (loadedGraph d e old) 2 k ≡ fileFunction e k
+    unfolding outputFunction outputs functionsOf fileFunction
+    right-function k l =
+        let same : outputFunction (loadedGraph d e old) 2 k ≡ function (d .inputs) = rw (table-graph d e inputs old counts) (functions-mean .right k l) in
+        same ∙ ap function inputs
+      where
+        function : ℕ → Truth
+        function n =
+            literalValue invert conj (constantly n false) (vertexResults invert conj (constantly n false) operationFunction (firstFunctions n) (e .gates))
+            (getD (e .outputs) k 0)
+
+    -- The constraint is true on the settings that the first file allows,
+    pub constraint-allowed : (s : Setting) → length s ≡ d .inputs
+        → literalValue not _&&_ false (valuesOn (loadedGraph d e old) s) (constraintOf (tableOf d e old)) ≡ allowed? d s
+    unfolding valuesOn allowed?
+    constraint-allowed s h =
+        rw (table-constraint d e inputs old counts, table-graph d e inputs old counts)
+        (graph-means (bit-valuation s) value-from-ands d e (omega arith) inputs .constraint)
+
+    -- and has the first file's function.
+    pub constraint-function :
+        literalValue invert conj (constantly (inputsOf (tableOf d e old)) false) (functionsOf (loadedGraph d e old)) (constraintOf (tableOf d e old))
+        ≡ constraintFunction d
+    unfolding functionsOf constraintFunction
+    constraint-function =
+        rw (table-inputs d e old, table-constraint d e inputs old counts, table-graph d e inputs old counts) (functions-mean .constraint)

@@ -7,7 +7,7 @@ use Rattle.aig.specs.declared.fold.Folded.the-variants.{Pair, To}
 use Rattle.aig.specs.declared.fold.Folded.{Folded}
 use Rattle.aig.specs.declared.lookup.Found.the-variants.{At, Nothing}
 use Rattle.aig.specs.declared.lookup.Found.{Found}
-use Rattle.netlist_model.specs.Netlist.{Gate, Netlist}
+use Rattle.netlist_model.specs.Netlist.{Gate, Netlist, constraintReference}
 use Rattle.netlist_model.specs.declared.Operation.the-variants.{And, Or, Xor}
 use Rattle.netlist_model.specs.declared.Operation.{Operation}
 use lib.ListN.{getD}
@@ -97,28 +97,35 @@ unfoldable pub literalsFrom : ℕ → ℕ → List ℕ
 literalsFrom v zero = []
 literalsFrom v (suc n) = 2 * v ∷ literalsFrom (suc v) n
 
--- A file's output literals, and the graph after it.
+-- A file's output literals, that of its constraint, "1 where no line gives it", and the graph after it. (RULES 1.13)
 pub record FileBuilt : Type 0 where
   pub outputs : List ℕ
+  pub constraint : ℕ
   pub build : Build
 
 unfoldable pub buildFile : Build → Netlist → FileBuilt
 buildFile b d =
     let t = askGates (record { literals = literalsFrom 0 (1 + d .inputs); build = b }) (d .gates) in
-    record { outputs = map (literalFor (t .literals)) (d .outputs); build = t .build }
+    record {
+      outputs = map (literalFor (t .literals)) (d .outputs);
+      constraint = literalFor (t .literals) (constraintReference d);
+      build = t .build;
+    }
 
 -- The graph of the constant and n inputs.
 unfoldable pub emptyBuild : ℕ → Build
 emptyBuild n = record { words = ownWords 0 (1 + n); count = 1 + n; asked = 0; folded = 0; found = 0 }
 
--- "The first file is loaded whole, then the second." (RULES 3.1)
+-- "The first file is loaded whole, then the second."; the constraint is the first file's: "A first file may end with one line `C⇥r`"
+-- (RULES 1.13, 3.1)
 pub record PairBuilt : Type 0 where
   pub left : List ℕ
   pub right : List ℕ
+  pub constraint : ℕ
   pub build : Build
 
 unfoldable pub buildPair : Netlist → Netlist → PairBuilt
 buildPair d e =
     let one = buildFile (emptyBuild (d .inputs)) d in
     let two = buildFile (one .build) e in
-    record { left = one .outputs; right = two .outputs; build = two .build }
+    record { left = one .outputs; right = two .outputs; constraint = one .constraint; build = two .build }

@@ -31,9 +31,9 @@ pub record LoadRoom : Type 0 where
 abbrev pub maxVertices : ℕ
 maxVertices = 1 + maxInputs + maxAnds
 
--- "12,419 words": a header, two words an AND and two sides of 64 outputs. (RULES 2.3, 8.1)
+-- "12,420 words": a header, two words an AND, two sides of 64 outputs and the constraint. (RULES 2.3, 8.1)
 abbrev pub maxTable : ℕ
-maxTable = 3 + 2 * maxAnds + 2 * maxOutputs
+maxTable = 3 + 2 * maxAnds + 2 * maxOutputs + 1
 
 -- An answer: the edition of the pair and how the ANDs that were asked for ended, or the number, the file and the line of a
 -- refusal. (RULES 3.8, 8.1)
@@ -63,7 +63,7 @@ shortSlice? r =
     ltb (r .pairs) (2 * maxVertices) || ltb (r .look) (2 * maxVertices) || ltb (r .literals) (2 * maxVertices) || ltb (r .outputs) (2 * maxVertices)
 
 -- "then 7, 8, 9, 14", 19 "after 7": "19 a name that the first file lacks, at its line in the second file", whose first name is in line 2; "8. The
--- ANDs exceed 6,144. 9. The table is shorter than 12,419 words.". By the counts of both files and the place of the first name lacked. (RULES 9.1)
+-- ANDs exceed 6,144. 9. The table is shorter than 12,420 words.". By the counts of both files and the place of the first name lacked. (RULES 9.1)
 abbrev pub pairTests : {A : Type 0} → (ℕ → ℕ → ℕ → A) → Counts → Counts → ℕ → LoadRoom → List (Test A)
 pairTests refuse c d lacked room =
     record { answer = refuse 7 2 1; applies = countsDiffer? c d }
@@ -102,10 +102,13 @@ loadResult left right room =
     firstRefusal (readResult room (readFirst left) (readSecond (readFirst left) right)) (lengthTests refused left right)
 
 -- "The lent table of 32-bit words then holds: inputs; made; outputs; two words a made vertex; the first file's output references; the
--- second file's." (RULES 4.1)
+-- second file's.", "The table holds r's reference after the outputs" (RULES 4.1)
 unfoldable pub tableWords : ℕ → PairBuilt → List ℕ
 tableWords inputs b =
-    inputs ∷ (b .build .count - (1 + inputs)) ∷ length (b .left) ∷ (drop (2 * (1 + inputs)) (b .build .words) ++ (b .left ++ b .right))
+    inputs
+    ∷ (b .build .count - (1 + inputs))
+    ∷ length (b .left)
+    ∷ (drop (2 * (1 + inputs)) (b .build .words) ++ (b .left ++ (b .right ++ (b .constraint ∷ []))))
 
 -- "Words after these are unchanged." (RULES 4.2)
 unfoldable pub tableOf : Netlist → Netlist → List ℕ → List ℕ

@@ -9,11 +9,11 @@ use Rattle.netlist_model.specs.Netlist.{Netlist, Within}
 use Rattle.netlist_model.specs.Pairing.{paired}
 use Rattle.netlist_model.specs.declared.Role.the-variants.{First, Second}
 use lib.ListN.{length}
-use mathlib.Core.List.{List}
+use mathlib.Core.List.{List, []}
 use mathlib.Core.Path.{_≡_}
 
--- Two netlists within the limits, of one edition, with equally many inputs and outputs, the second one's names all among the first one's, and
--- at most 6,144 ANDs. (RULES 1.11, 2.1, 2.2)
+-- Two netlists within the limits, of one edition, with equally many inputs and outputs, the second one's names all among the first one's, the
+-- second with no constraint, and at most 6,144 ANDs. (RULES 1.11, 1.13, 2.1, 2.2)
 pub record Loadable (d e : Netlist) : Type 0 where
   pub left : Within d
   pub right : Within e
@@ -21,11 +21,12 @@ pub record Loadable (d e : Netlist) : Type 0 where
   pub inputs : d .inputs ≡ e .inputs
   pub outputs : length (d .outputs) ≡ length (e .outputs)
   pub names : (name : List ℕ) → Among name (e .names) → Among name (d .names)
+  pub unconstrained : e .constraints ≡ []
   pub ands : andCount (d .gates) + andCount (e .gates) ≤ 6144
 
--- The table and the working slices are long enough: "12,419 words", "2 words a vertex (load: for 6,209 vertices)". (RULES 8.1, 8.2)
+-- The table and the working slices are long enough: "12,420 words", "2 words a vertex (load: for 6,209 vertices)". (RULES 8.1, 8.2)
 pub record Enough (room : LoadRoom) : Type 0 where
-  pub table : 12419 ≤ room .table
+  pub table : 12420 ≤ room .table
   pub pairs : 12418 ≤ room .pairs
   pub look : 12418 ≤ room .look
   pub literals : 12418 ≤ room .literals

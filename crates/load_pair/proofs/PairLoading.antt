@@ -7,9 +7,10 @@ use Rattle.load_model.specs.Build.{Build, FileBuilt, buildFile, buildPair, empt
 use Rattle.load_model.specs.Load.{maxTable, maxVertices, tableOf, tableWords, tallyOf}
 use Rattle.load_model.specs.declared.Tally.{Tally}
 use Rattle.load_file.proofs.FileLoading.{inputs-few, outputs-few}
-use Rattle.load_pair.proofs.TableWords.{words-are}
+use Rattle.load_file.specs.code.File.{withConstraint}
+use Rattle.load_pair.proofs.TableWords.{outputs-held, words-are}
 use Rattle.load_model.specs.code.Paired.{buildFrom, secondLiterals}
-use Rattle.load_pair.specs.code.Pair.{Agreed, TableRoom, pairOf, secondOf, wordsOf}
+use Rattle.load_pair.specs.code.Pair.{Agreed, OutputsHeld, TableRoom, pairOf, secondOf, wordsOf}
 use Rattle.netlist_model.proofs.CheckLaws.{names-at-most}
 use Rattle.netlist_model.proofs.PairingLaws.{Matched, names-equal, paired-ands, paired-inputs, paired-outputs}
 use Rattle.netlist_model.proofs.ReadLaws.{holds-front, holds-names}
@@ -38,10 +39,14 @@ module _ (d e : Netlist) {n : ℕ} {b₀ b₁ : Build} (i : n ≡ d .inputs) (e�
   pair-built e₂ = rw (e₁, e₀, i) at e₂
 
   pub pair-outputs :
-      (o₀ : List ℕ) {o₁ o₂ : List ℕ} → o₁ ≡ written o₀ 0 (buildFile b₀ d .outputs) → o₂ ≡ written o₁ maxOutputs (buildFile b₁ e .outputs)
-      → o₂ ≡ written (written o₀ 0 (buildPair d e .left)) maxOutputs (buildPair d e .right)
+      (o₀ : List ℕ) {o₁ o₂ : List ℕ} → o₁ ≡ written o₀ 0 (withConstraint (buildFile b₀ d))
+      → o₂ ≡ written o₁ (maxOutputs + 1) (withConstraint (buildFile b₁ e)) → length (d .outputs) ≤ maxOutputs → length (e .outputs) ≤ maxOutputs
+      → 2 * maxOutputs + 2 ≤ length o₀ → OutputsHeld o₂ (buildPair d e)
   unfolding buildPair
-  pair-outputs o₀ p q = rw (p, e₁, e₀, i) at q
+  pair-outputs o₀ p q left right room =
+      let one = buildFile (emptyBuild (d .inputs)) d in
+      outputs-held o₀ one (buildFile (one .build) e) (buildPair d e) (rw (p, e₁, e₀, i) at q) (omega (arith, length-left d e))
+      (omega (arith, length-right d e)) room refl refl refl
 
   left-asked : d .inputs ≡ e .inputs → b₁ .asked ≡ andCount (d .gates)
   unfolding emptyBuild
@@ -58,12 +63,13 @@ unfolding buildFrom buildFile written
 by-place b d old literals n e h =
     rw (h, take-at (literalsFrom 0 n) (drop (0 + length (literalsFrom 0 n)) old) n (literals-length 0 n), e) refl
 
--- The graph after it, and its outputs.
+-- The graph after it, and its outputs and constraint.
 pub same-build : {x : Build} (f g : FileBuilt) → f ≡ g → x ≡ f .build → x ≡ g .build
 same-build f g e h = h ∙ ap (λ (y : FileBuilt). y .build) e
 
-pub same-outputs : {o : List ℕ} (f g : FileBuilt) (old : List ℕ) (at : ℕ) → f ≡ g → o ≡ written old at (f .outputs) → o ≡ written old at (g .outputs)
-same-outputs f g old at e h = h ∙ ap (λ (y : FileBuilt). written old at (y .outputs)) e
+pub same-outputs : {o : List ℕ} (f g : FileBuilt) (old : List ℕ) (at : ℕ) → f ≡ g → o ≡ written old at (withConstraint f)
+    → o ≡ written old at (withConstraint g)
+same-outputs f g old at e h = h ∙ ap (λ (y : FileBuilt). written old at (withConstraint y)) e
 
 -- The inputs of a file, and those of the netlist that it holds.
 pub netlist-inputs : (file : List ℕ) (s : Summary) → s .inputs ≡ netlistOf file s .inputs
@@ -88,6 +94,10 @@ module _ {one two : List ℕ} {s t : Summary} (a : Agreed one two s t) where
         inputs = sym (netlist-inputs one s) ∙ a .inputs ∙ netlist-inputs two t;
         names = a .names;
       }
+
+  -- The second file's outputs are few in the first one's order too.
+  pub second-few : length (secondOf one two s t .outputs) ≤ maxOutputs
+  second-few = omega (arith, paired-outputs (netlistOf one s) (netlistOf two t), a .right .within .outputs)
 
   -- They have equally many names.
   pub same-names : s .names ≡ t .names
@@ -178,17 +188,16 @@ module _ {one two : List ℕ} {s t : Summary} (a : Agreed one two s t) where
     tally-is = rw h refl
 
     pub table-is :
-        (table pairs old : List ℕ) {outputs : List ℕ} → take (2 * b .count) pairs ≡ b .words
-        → outputs ≡ written (written old 0 (pairOf one two s t .left)) maxOutputs (pairOf one two s t .right) → 2 * maxVertices ≤ length pairs
-        → 2 * maxVertices ≤ length old
+        (table pairs : List ℕ) {outputs : List ℕ} → take (2 * b .count) pairs ≡ b .words → OutputsHeld outputs (pairOf one two s t)
+        → 2 * maxVertices ≤ length pairs
         → written table 0 (wordsOf pairs outputs (1 + s .inputs) (b .count) (s .outputs)) ≡ tableOf (netlistOf one s) (secondOf one two s t) table
     unfolding tableOf netlistOf d e
-    table-is table pairs old words outputs for-pairs for-outputs =
+    table-is table pairs words outputs for-pairs =
         let p = pairOf one two s t in
         let left : length (p .left) ≡ s .outputs = length-left d e ∙ sym (ap (λ (x : Summary). x .outputs) (a .left .counts)) in
         let right : length (p .right) ≡ s .outputs = length-right d e ∙ paired-outputs (netlistOf one s) (netlistOf two t) ∙ sym (ap (λ (x : Summary). x .outputs) (a .right .counts)) ∙ sym (a .outputs) in
         let held : take (2 * b .count) pairs ≡ p .build .words = words ∙ ap (λ (x : Build). x .words) h in
         let ws =
-        words-are p pairs old (s .inputs) (b .count) (s .outputs) held count-is outputs left right (outputs-few (a .left)) (omega arith)
+        words-are p pairs (s .inputs) (b .count) (s .outputs) held count-is outputs left right
         count-within (omega (arith, vertices-few, count-is, inputs-few (a .left))) in
         rw ws (front-written table (tableWords (d .inputs) p))

@@ -1,14 +1,15 @@
--- The parts of the table's words: their lengths, and that they are those of the graph.
-use Prim.Native.Nat.{_*_, _+_, _-_, _≤_, ℕ}
-use Rattle.load_model.specs.Build.{PairBuilt}
+-- The parts of the table's words: their lengths, and that they are those of the graph and of both files' outputs.
+use Prim.Native.Nat.{_*_, _+_, _-_, _<_, _≤_, ℕ}
+use Rattle.load_file.specs.code.File.{withConstraint}
+use Rattle.load_model.specs.Build.{FileBuilt, PairBuilt}
 use Rattle.load_model.specs.Load.{tableWords}
-use Rattle.load_pair.specs.code.Pair.{TableRoom, wordsOf}
+use Rattle.load_pair.specs.code.Pair.{OutputsHeld, TableRoom, wordsOf}
 use Rattle.table.specs.Limits.{maxOutputs}
 use Rattle.text.proofs.DecimalLaws.{written-length}
 use Rattle.text.specs.Decimal.{written}
-use lib.ListN.{drop, length, length-drop, take}
-use lib.Seq.{drop-at, length-take-le, take-add, take-append-le, take-append-seam, take-take}
-use mathlib.Core.List.{List}
+use lib.ListN.{drop, getD, length, length-append, length-drop, take}
+use lib.Seq.{drop-at, getD-append-seam, getD-take, length-take-le, take-add, take-append-le, take-append-seam, take-take}
+use mathlib.Core.List.{List, [], _++_, _∷_}
 use mathlib.Core.Path.{_∙_, _≡_, ap, refl, sym}
 use native.Mathlib.Omega.{arith}
 
@@ -24,11 +25,17 @@ module _ {table first vertices count : ℕ} (pairs outputs : List ℕ) (r : Tabl
   left-length = length-take-le count outputs (omega (arith, r .side, r .sides))
 
   -- The second part as the code cuts it.
-  pub right-part : take (maxOutputs + count - maxOutputs) (drop maxOutputs outputs) ≡ take count (drop maxOutputs outputs)
-  right-part = let e : maxOutputs + count - maxOutputs ≡ count = omega arith in rw e refl
+  pub right-part : take (maxOutputs + 1 + count - (maxOutputs + 1)) (drop (maxOutputs + 1) outputs) ≡ take count (drop (maxOutputs + 1) outputs)
+  right-part = let e : maxOutputs + 1 + count - (maxOutputs + 1) ≡ count = omega arith in rw e refl
 
-  pub right-length : length (take count (drop maxOutputs outputs)) ≡ count
-  right-length = part-length outputs maxOutputs count (omega (arith, r .side, r .sides))
+  pub right-length : length (take count (drop (maxOutputs + 1) outputs)) ≡ count
+  right-length = part-length outputs (maxOutputs + 1) count (omega (arith, r .side, r .sides))
+
+  -- The place after all of them is within the table.
+  pub last-within :
+      {a b c : ℕ} → a ≡ 3 + length (take (2 * vertices - 2 * first) (drop (2 * first) pairs)) → b ≡ a + length (take count outputs)
+      → c ≡ b + length (take count (drop (maxOutputs + 1) outputs)) → c < table
+  last-within e f g = omega (arith, r .room, rows-length, left-length, right-length, e, f, g)
 
 -- The rows among the words of all vertices.
 rows-are : (l : List ℕ) (a e : ℕ) → a ≤ e → e ≤ length l → take (e - a) (drop a l) ≡ drop a (take e l)
@@ -37,7 +44,7 @@ rows-are l a e h k =
     sym (drop-at (take a l) (take (e - a) (drop a l)) a (length-take-le a l (omega arith)))
     ∙ ap (drop a) (sym (take-add a (e - a) l) ∙ ap (λ (n : ℕ). take n l) (sym m))
 
--- The outputs of both files, the first's at the front and the second's from a place on.
+-- The words of both files, the first's at the front and the second's from a place on.
 module _ (old left right : List ℕ) (at : ℕ) (few : length left ≤ at) (room : at + length right ≤ length old) where
   front-length : length (take at (written old 0 left)) ≡ at
   front-length = length-take-le at (written old 0 left) (rw (written-length old 0 left (omega arith)) (omega arith))
@@ -55,17 +62,48 @@ module _ (old left right : List ℕ) (at : ℕ) (few : length left ≤ at) (room
       ap (take (length right)) (drop-at (take at (written old 0 left)) _ at front-length)
       ∙ take-append-seam right (drop (at + length right) (written old 0 left))
 
+-- Where words and one more stand at the front of a list, so do the words without it, and it stands after them.
+module _ (xs : List ℕ) (x : ℕ) (l : List ℕ) (h : take (length (xs ++ (x ∷ []))) l ≡ xs ++ (x ∷ [])) where
+  all-but-last : take (length xs) l ≡ xs
+  all-but-last =
+      sym (take-take (length xs) (length (xs ++ (x ∷ []))) l (rw length-append (omega arith)))
+      ∙ ap (take (length xs)) h
+      ∙ take-append-seam xs (x ∷ [])
+
+  last-one : getD l (length xs) 0 ≡ x
+  last-one =
+      sym (getD-take (length (xs ++ (x ∷ []))) l (length xs) 0 (rw length-append (omega arith)))
+      ∙ ap (λ (ws : List ℕ). getD ws (length xs) 0) h
+      ∙ getD-append-seam xs x [] 0
+
+-- The outputs of both files and the constraint, as the files' words are written.
+pub outputs-held : (old : List ℕ) (f g : FileBuilt) (b : PairBuilt) {outputs : List ℕ}
+    → outputs ≡ written (written old 0 (withConstraint f)) (maxOutputs + 1) (withConstraint g) → length (f .outputs) ≤ maxOutputs
+    → length (g .outputs) ≤ maxOutputs → 2 * maxOutputs + 2 ≤ length old → b .left ≡ f .outputs → b .constraint ≡ f .constraint → b .right ≡ g .outputs
+    → OutputsHeld outputs b
+outputs-held old f g b held few few' room left constraint right =
+    let some : length (withConstraint f) ≤ maxOutputs + 1 = rw length-append (omega arith) in
+    let fits : maxOutputs + 1 + length (withConstraint g) ≤ length old = rw length-append (omega arith) in
+    let front = left-is old (withConstraint f) (withConstraint g) (maxOutputs + 1) some fits in
+    let back = right-is old (withConstraint f) (withConstraint g) (maxOutputs + 1) some fits in
+    rw held
+    (record {
+      left = rw left (all-but-last (f .outputs) (f .constraint) _ front);
+      constraint = rw (left, constraint) (last-one (f .outputs) (f .constraint) _ front);
+      right = rw right (all-but-last (g .outputs) (g .constraint) _ back);
+    })
+
 -- The words in the slices are those of the graph.
 pub words-are :
-    (b : PairBuilt) (pairs old : List ℕ) {outputs : List ℕ} (n v count : ℕ) → take (2 * v) pairs ≡ b .build .words → v ≡ b .build .count
-    → outputs ≡ written (written old 0 (b .left)) maxOutputs (b .right) → length (b .left) ≡ count → length (b .right) ≡ count
-    → count ≤ maxOutputs → 2 * maxOutputs ≤ length old → 1 + n ≤ v → 2 * v ≤ length pairs → wordsOf pairs outputs (1 + n) v count ≡ tableWords n b
+    (b : PairBuilt) (pairs : List ℕ) {outputs : List ℕ} (n v count : ℕ) → take (2 * v) pairs ≡ b .build .words → v ≡ b .build .count
+    → OutputsHeld outputs b → length (b .left) ≡ count → length (b .right) ≡ count → 1 + n ≤ v → 2 * v ≤ length pairs → wordsOf pairs outputs (1 + n) v count ≡ tableWords n b
 unfolding tableWords
-words-are b pairs old {outputs} n v count words is held left right few room first fits =
+words-are b pairs {outputs} n v count words is held left right first fits =
     let z : 1 + n - 1 ≡ n = omega arith in
     let made : v - (1 + n) ≡ b .build .count - (1 + n) = rw is refl in
     let rows : take (2 * v - 2 * (1 + n)) (drop (2 * (1 + n)) pairs) ≡ drop (2 * (1 + n)) (b .build .words) =
     rows-are pairs (2 * (1 + n)) (2 * v) (omega arith) fits ∙ ap (drop (2 * (1 + n))) words in
-    let one : take count outputs ≡ b .left = rw (held, ← left) (left-is old (b .left) (b .right) maxOutputs (omega arith) (omega arith)) in
-    let two : take count (drop maxOutputs outputs) ≡ b .right = rw (held, ← right) (right-is old (b .left) (b .right) maxOutputs (omega arith) (omega arith)) in
+    let one : take count outputs ≡ b .left = rw (← left) (held .left) in
+    let two : take count (drop (maxOutputs + 1) outputs) ≡ b .right = rw (← right) (held .right) in
+    let last : getD outputs count 0 ≡ b .constraint = rw (← left) (held .constraint) in
     cc

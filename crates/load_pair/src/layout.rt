@@ -1,4 +1,4 @@
-// The words of the table: header, rows, the outputs of both files.
+// The words of the table: header, rows, the outputs of both files, the constraint.
 ghost use Prim.Native.Nat.{_≤_};
 ghost use Rattle.load_pair.specs.code.Pair.{TableRoom, wordsOf};
 ghost use Rattle.text.specs.Decimal.{written};
@@ -6,10 +6,11 @@ ghost use lib.ListN.{length};
 ghost use mathlib.Core.List.{[], _∷_};
 ghost use mathlib.Core.Path.{_≡_};
 
-// Where the outputs of the second file stand in their working slice; those of the first stand at its front.
-pub const RIGHT: usize = table::MAX_OUTPUTS as usize;
+// Where the outputs of the second file stand in their working slice; those of the first stand at its front. Each file's are followed by its
+// constraint; that of the second, which is always 1, is not read.
+pub const RIGHT: usize = table::MAX_OUTPUTS as usize + 1;
 
-// Writes the header, the rows of the vertices from `first` on, and the outputs of both files.
+// Writes the header, the rows of the vertices from `first` on, the outputs of both files, and the first file's constraint.
 pub fn write_table(
     table: &mut [u32],
     pairs: &[u32],
@@ -28,7 +29,8 @@ pub fn write_table(
     let left = count as usize;
     let at = words::copy(&outputs[..left], table, at);
     let right = RIGHT + left;
-    words::copy(&outputs[RIGHT..right], table, at);
+    let at = words::copy(&outputs[RIGHT..right], table, at);
+    table[at] = outputs[left];
 }
 
 fn write_header(table: &mut [u32], inputs: u32, made: u32, outputs: u32)

@@ -7,7 +7,7 @@ use netlist_model::Summary;
 ghost use Prim.Native.Nat.{_≤_};
 ghost use Rattle.load_model.specs.Load.{maxTable, tableOf, tallyOf};
 ghost use Rattle.load_graph.specs.code.Slices.{buildOf};
-ghost use Rattle.load_pair.specs.code.Pair.{Agreed, Enough, outputsOver, pairOf, secondOf};
+ghost use Rattle.load_pair.specs.code.Pair.{Agreed, Enough, OutputsHeld, pairOf, secondOf};
 ghost use Rattle.netlist_model.specs.code.Accepted.{netlistOf};
 ghost use lib.ListN.{length};
 ghost use mathlib.Core.Path.{_≡_};
@@ -49,7 +49,8 @@ pub fn load_pair(
     }
 }
 
-// The graph of both files, the first loaded whole, then the second with its inputs in the first one's order, and the literals of their outputs.
+// The graph of both files, the first loaded whole, then the second with its inputs in the first one's order, and the literals of their outputs
+// and of the constraint.
 fn build_pair(
     left: &[u8],
     right: &[u8],
@@ -63,7 +64,7 @@ fn build_pair(
     requires files { ⌜ Agreed (now left) (now right) one two ⌝ }
     requires room { ⌜ Enough (length (now pairs)) (length (now look)) (length (now literals)) (length (now outputs)) ⌝ }
     ensures result { λ r. ⌜ buildOf (now (pairs .exit)) r ≡ pairOf (now (left .entry)) (now (right .entry)) one two .build ⌝ }
-    ensures outputs { λ _. ⌜ now (outputs .exit) ≡ outputsOver (now (outputs .entry)) (pairOf (now (left .entry)) (now (right .entry)) one two) ⌝ }
+    ensures outputs { λ _. ⌜ OutputsHeld (now (outputs .exit)) (pairOf (now (left .entry)) (now (right .entry)) one two) ⌝ }
 {
     let counts = load_graph::start(pairs, look, one.inputs);
     load_inputs::write_by_place(literals, 1 + one.inputs);

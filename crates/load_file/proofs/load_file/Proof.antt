@@ -1,10 +1,9 @@
--- The gates and the outputs of the file, one after the other; no loop.
+-- The gates, the outputs and the constraint of the file, one after the other; no loop.
 -- What the file holds is ahead of each.
-use Rattle.load_file.proofs.FileLoading.{file-built, file-outputs, gates-few, gates-there, inputs-few, outputs-few, outputs-there}
+use Rattle.load_file.proofs.FileLoading.{file-built, file-written, gates-few, gates-there, inputs-few, outputs-few, outputs-there, reference-below}
 use Rattle.load_file.proofs.load_file.Statement.{statement}
 use Rattle.load_file.proofs.load_file.Tie as tie
 use borrow.Author.Needs.{needs}
-use mathlib.Core.Path.{_∙_, refl}
 use native.Mathlib.Omega.{arith}
 
 add-first : tie.Need-add-first
@@ -32,6 +31,25 @@ write-outputs-requires c κs =
       omega (arith, outputs-few (s .pre .0), s .pre .1 .1 .2),
     )
 
+cast-last : tie.Need-cast-last
+cast-last c = search needs
+
+add-last : tie.Need-add-last
+add-last c = let s = c .before .before .before .before .before .before .before .before .before .before .before .before .before .before .before .before .before .before .before .before .before .before .before .before in omega (arith, outputs-few (s .pre .0), s .pre .1 .1 .2, s .good .1 .1 .1 .1 .1 .0)
+
+literal-for-requires : tie.Need-literal-for-requires
+literal-for-requires c κs =
+    let s = c .before .before .before .before .before .before .before .before .before .before .before .before .before .before .before .before .before .before .before .before .before .before .before .before .before in
+    omega (arith, reference-below (s .pre .0), inputs-few (s .pre .0), gates-few (s .pre .0), s .pre .1 .1 .1, c .before .before .before .before .before .before .before .before .before .literals .given)
+
+mul-outputs : tie.Need-mul-outputs
+mul-outputs c = let s = c .before .before .before .before .before .before .before .before .before .before .before .before .before .before .before .before .before .before .before .before .before .before .before .before .before .before in omega (arith, outputs-few (s .pre .0), s .pre .1 .1 .2, s .good .1 .1 .1 .1 .1 .0)
+
+slice-write-outputs : tie.Need-slice-write-outputs
+slice-write-outputs c =
+    let s = c .before .before .before .before .before .before .before .before .before .before .before .before .before .before .before .before .before .before .before .before .before .before .before .before .before .before in
+    omega (arith, outputs-few (s .pre .0), s .pre .1 .1 .2, c .before .before .before .before .outputs .given)
+
 same-length : tie.Need-same-length
 same-length c = search needs
 
@@ -46,9 +64,15 @@ same-length-4 c = search needs
 
 returns : tie.Need-returns
 returns c =
-    let s = c .before .before .before .before .before .before .before .before .before .before .before .before .before .before .before .before .before .before .before .before .before .before .before .before in
-    let asked = c .before .before .before .before .before .before .before .before .before .before .before .before .before .ask-gates .ensures in
-    (file-built (s .pre .0) _ _ (asked .0), (c .before .before .before .write-outputs .ensures ∙ rw (file-outputs (s .pre .0) _ _ (asked .0)) refl, asked .1))
+    let s = c .before .before .before .before .before .before .before .before .before .before .before .before .before .before .before .before .before .before .before .before .before .before .before .before .before .before .before in
+    let asked = c .before .before .before .before .before .before .before .before .before .before .before .before .before .before .before .before .ask-gates .ensures in (
+      file-built (s .pre .0) _ _ (asked .0),
+      (
+        file-written (s .pre .0) _ _ (asked .0) (s .args .outputs .now) (s .args .from) (omega (arith, outputs-few (s .pre .0), s .pre .1 .1 .2))
+            (c .before .before .before .before .before .before .write-outputs .ensures) (c .before .literal-for .ensures),
+        asked .1,
+      ),
+    )
 
 pub load-file-spec : {M : Type 1} → statement M
 load-file-spec =
@@ -60,6 +84,11 @@ load-file-spec =
     ask-gates-requires
     cast-write-outputs
     write-outputs-requires
+    cast-last
+    add-last
+    literal-for-requires
+    mul-outputs
+    slice-write-outputs
     same-length
     same-length-2
     same-length-3

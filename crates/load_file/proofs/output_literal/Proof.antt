@@ -14,7 +14,7 @@ enum-known-found : tie.Need-enum-known-found
 enum-known-found c = search needs
 
 returns : tie.Need-returns
-returns c = absurd (none-of (rw (c .before .read-line .ensures ∙ c .before .before .before .before .pre .this) at (c .match .keys2)) (λ h. omega arith) (λ h. omega arith) (λ h. omega arith) (λ h. omega arith))
+returns c = absurd (none-of (rw (c .before .read-line .ensures ∙ c .before .before .before .before .pre .this) at (c .match .keys2)) (λ h. omega arith) (λ h. omega arith) (λ h. omega arith) (λ h. omega arith) (λ h. omega arith))
 
 literal-for-requires : tie.Need-literal-for-requires
 literal-for-requires c κs = output-due (c .before .before .before .before .before .before .pre) (sym (c .before .before .before .read-line .ensures) ∙ c .before .found .given .1)

@@ -3,16 +3,20 @@ use Prim.Native.Nat.{_*_, _+_, ℕ}
 use Rattle.load_model.specs.Build.{Build, FileBuilt, askGates, literalFor, literalsFrom}
 use Rattle.netlist_model.specs.Limits.{byName}
 use Rattle.netlist_model.specs.Names.{placeOf}
-use Rattle.netlist_model.specs.Netlist.{Netlist}
+use Rattle.netlist_model.specs.Netlist.{Netlist, constraintReference}
 use lib.Dec.{eqb}
 use mathlib.Core.Bool.{cond}
 use mathlib.Core.List.{List, _∷_, map}
 
--- Its outputs and the graph after it.
+-- Its outputs, its constraint and the graph after it.
 unfoldable pub buildFrom : List ℕ → Build → Netlist → FileBuilt
 buildFrom literals b d =
     let t = askGates (record { literals = literals; build = b }) (d .gates) in
-    record { outputs = map (literalFor (t .literals)) (d .outputs); build = t .build }
+    record {
+      outputs = map (literalFor (t .literals)) (d .outputs);
+      constraint = literalFor (t .literals) (constraintReference d);
+      build = t .build;
+    }
 
 -- The literals of the constant and of inputs with these names, where the first file's inputs have those.
 unfoldable pub namedLiterals : List (List ℕ) → List (List ℕ) → List ℕ

@@ -6,7 +6,7 @@ use Rattle.load_model.specs.Build.{Build, Traced, buildPair, emptyBuild}
 use Rattle.load_model.specs.code.From.{From}
 use Rattle.load_model.specs.code.Grown.{Grown}
 use Rattle.netlist_model.specs.Meaning.{andResult, andsFrom, fromAnds, gateAnds, vertexResults}
-use Rattle.netlist_model.specs.Netlist.{Netlist}
+use Rattle.netlist_model.specs.Netlist.{Netlist, constraintReference}
 use Rattle.netlist_model.specs.declared.Operation.{Operation}
 use Rattle.table.specs.Values.{Pair}
 use lib.ListN.{getD, length}
@@ -55,7 +55,8 @@ module _ {A : Type 0} (invert : A → A) (both : A → A → A) (falsum : A) whe
     pub grown : Grown b rows c
     pub from : From (map (operandsOf vs) rows) ands
 
-  -- The outputs of both files have their files' values, given those of the constant and the inputs, and the rows come from their ANDs. (RULES 12.2)
+  -- The outputs of both files and the constraint have their files' values, given those of the constant and the inputs, and the rows come from
+  -- their ANDs. (RULES 12.2)
   pub record PairMeans (operation : Operation → A → A → A) (vs us : List A) (d e : Netlist) : Type 0 where
     pub left : (k : ℕ) → k < length (d .outputs)
         → literalValue invert both falsum vs (getD (buildPair d e .left) k 0)
@@ -63,5 +64,7 @@ module _ {A : Type 0} (invert : A → A) (both : A → A → A) (falsum : A) whe
     pub right : (k : ℕ) → k < length (e .outputs)
         → literalValue invert both falsum vs (getD (buildPair d e .right) k 0)
         ≡ literalValue invert both falsum (vertexResults invert both falsum operation us (e .gates)) (getD (e .outputs) k 0)
+    pub constraint : literalValue invert both falsum vs (buildPair d e .constraint)
+        ≡ literalValue invert both falsum (vertexResults invert both falsum operation us (d .gates)) (constraintReference d)
     pub origin : Origin vs (emptyBuild (d .inputs)) (buildPair d e .build)
         (andsFrom invert both falsum operation us (d .gates) ++ andsFrom invert both falsum operation us (e .gates))

@@ -1,7 +1,7 @@
 -- The first vertices, the first file, the second file with its own first literals, as the definition says; no loop.
 -- The ANDs of both files are few enough for each to have room.
 use Rattle.load_file.proofs.FileLoading.{inputs-few}
-use Rattle.load_pair.proofs.PairLoading.{by-place, left-names, names-few, netlist-inputs, none-asked, pair-built, pair-outputs, room-left, same-build, same-outputs, second-built}
+use Rattle.load_pair.proofs.PairLoading.{by-place, left-names, names-few, netlist-inputs, none-asked, pair-built, pair-outputs, room-left, same-build, same-outputs, second-built, second-few}
 use Rattle.load_pair.proofs.build_pair.Statement.{statement}
 use Rattle.load_pair.proofs.build_pair.Tie as tie
 use Rattle.load_pair.specs.code.Pair.{secondOf}
@@ -107,7 +107,8 @@ returns c =
     let named = second-built (s .pre .0) _ _ _ (c .before .before .before .before .before .before .before .before .before .before .before .before .before .before .before .write-second .ensures) in
     let one = same-build _ _ placed (first .0) in (
       pair-built d e i (start .0) one (same-build _ _ named (second .0)),
-      pair-outputs d e i (start .0) one (s .args .outputs .now) (same-outputs _ _ _ _ placed (first .1 .0)) (same-outputs _ _ _ _ named (second .1 .0)),
+      pair-outputs d e i (start .0) one (s .args .outputs .now) (same-outputs _ _ _ _ placed (first .1 .0)) (same-outputs _ _ _ _ named (second .1 .0))
+          (s .pre .0 .left .within .outputs) (second-few (s .pre .0)) (omega (arith, s .pre .1 .for-outputs)),
     )
 
 pub build-pair-spec : {M : Type 1} → statement M

@@ -44,8 +44,8 @@ returns c =
     let h = c .before .before .before .before .before .before .before .before .before .before .before .before .before .before .build-pair .ensures .0 in (
       tally-is (s .pre .0) h,
       c .before .before .write-table .ensures
-          ∙ table-is (s .pre .0) h (s .args .table .now) (c .before .before .before .before .before .before .before .before .before .before .before .before .before .before .build-pair .last .1 .1 .1 .1 .0) (s .args .outputs .now) refl (c .before .before .before .before .before .before .before .before .before .before .before .before .before .before .build-pair .ensures .1)
-          (omega (arith, s .pre .1 .0 .for-pairs, c .before .before .before .before .before .before .before .before .before .before .before .before .before .pairs .given)) (s .pre .1 .0 .for-outputs),
+          ∙ table-is (s .pre .0) h (s .args .table .now) (c .before .before .before .before .before .before .before .before .before .before .before .before .before .before .build-pair .last .1 .1 .1 .1 .0) refl (c .before .before .before .before .before .before .before .before .before .before .before .before .before .before .build-pair .ensures .1)
+          (omega (arith, s .pre .1 .0 .for-pairs, c .before .before .before .before .before .before .before .before .before .before .before .before .before .pairs .given)),
     )
 
 pub load-pair-spec : {M : Type 1} → statement M

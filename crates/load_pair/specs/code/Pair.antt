@@ -8,16 +8,17 @@ use Rattle.netlist_model.specs.Pairing.{paired}
 use Rattle.netlist_model.specs.code.Accepted.{HoldsNetlist, netlistOf}
 use Rattle.netlist_model.specs.declared.Summary.{Summary}
 use Rattle.table.specs.Limits.{maxAnds, maxOutputs}
-use Rattle.text.specs.Decimal.{written}
-use lib.ListN.{drop, take}
-use mathlib.Core.List.{List, _++_, _∷_}
+use lib.ListN.{drop, getD, length, take}
+use mathlib.Core.List.{List, [], _++_, _∷_}
 use mathlib.Core.Path.{_≡_}
 
--- The words of the table: `first` is the first vertex that has a row, and the second file's outputs stand after the most that the first can have.
+-- The words of the table: `first` is the first vertex that has a row. In their slice the first file's outputs have its constraint after them, and
+-- the second file's stand after the most that the first can have.
 abbrev pub wordsOf : List ℕ → List ℕ → ℕ → ℕ → ℕ → List ℕ
 wordsOf pairs outputs first vertices count =
     (first - 1) ∷ (vertices - first) ∷ count
-    ∷ (take (2 * vertices - 2 * first) (drop (2 * first) pairs) ++ (take count outputs ++ take count (drop maxOutputs outputs)))
+    ∷ (take (2 * vertices - 2 * first) (drop (2 * first) pairs)
+    ++ (take count outputs ++ (take count (drop (maxOutputs + 1) outputs) ++ (getD outputs count 0 ∷ []))))
 
 -- The table has room for them, and they are there.
 pub record TableRoom (table pairs outputs first vertices count : ℕ) : Type 0 where
@@ -25,8 +26,8 @@ pub record TableRoom (table pairs outputs first vertices count : ℕ) : Type 0 w
   pub from-first : first ≤ vertices
   pub rows : 2 * vertices ≤ pairs
   pub side : count ≤ maxOutputs
-  pub sides : 2 * maxOutputs ≤ outputs
-  pub room : 3 + (2 * vertices - 2 * first) + 2 * count ≤ table
+  pub sides : 2 * maxOutputs + 1 ≤ outputs
+  pub room : 3 + (2 * vertices - 2 * first) + 2 * count + 1 ≤ table
 
 -- Two files with some counts are loaded: they hold netlists of one edition, with equally many inputs and outputs, the second one's names among
 -- the first one's, and few enough ANDs. (RULES 1.11, 2.2)
@@ -54,6 +55,8 @@ secondOf one two s t = paired (netlistOf one s) (netlistOf two t)
 abbrev pub pairOf : List ℕ → List ℕ → Summary → Summary → PairBuilt
 pairOf one two s t = buildPair (netlistOf one s) (secondOf one two s t)
 
--- The literals of both files' outputs in their slice, those of the second after the most that the first can have.
-abbrev pub outputsOver : List ℕ → PairBuilt → List ℕ
-outputsOver old b = written (written old 0 (b .left)) maxOutputs (b .right)
+-- The literals of both files' outputs and of the constraint are in their slice.
+pub record OutputsHeld (outputs : List ℕ) (b : PairBuilt) : Type 0 where
+  pub left : take (length (b .left)) outputs ≡ b .left
+  pub constraint : getD outputs (length (b .left)) 0 ≡ b .constraint
+  pub right : take (length (b .right)) (drop (maxOutputs + 1) outputs) ≡ b .right

@@ -6,7 +6,7 @@ use Rattle.run_load.proofs.print_words.Tie as tie
 use borrow.Author.Needs.{needs}
 
 abbrev Inv-loop : tie.InvT-loop
-Inv-loop words count end i₀ t6 t7 i = (i ≤ end) × (end ≤ 12419)
+Inv-loop words count end i₀ t6 t7 i = (i ≤ end) × (end ≤ 12420)
 
 abbrev μ-loop : tie.MeasureT-loop
 μ-loop words count end i₀ t6 t7 i = end - i

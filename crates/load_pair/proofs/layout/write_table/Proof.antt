@@ -1,11 +1,12 @@
--- Header, rows, and the outputs of both files, each after the other; no loop.
+-- Header, rows, the outputs of both files and the constraint, each after the other; no loop.
 -- The table has room for all of them.
 use Rattle.load_pair.proofs.Copying.{table-written}
-use Rattle.load_pair.proofs.TableWords.{left-length, right-length, right-part, rows-length}
+use Rattle.load_pair.proofs.TableWords.{last-within, left-length, right-length, right-part, rows-length}
 use Rattle.load_pair.proofs.layout.write_table.Statement.{statement}
 use Rattle.load_pair.proofs.layout.write_table.Tie as tie
 use borrow.Author.Needs.{needs}
-use mathlib.Core.Path.{sym}
+use lib.ListN.{length-set}
+use mathlib.Core.Path.{_∙_, sym}
 use native.Mathlib.Omega.{arith}
 
 sub-write-header : tie.Need-sub-write-header
@@ -86,17 +87,40 @@ copy-requires-3 c κs =
       c .before .before .before .before .before .before .before .before .before .before .before .before .before .table .given,
     ))
 
+mul-table : tie.Need-mul-table
+mul-table c = search needs
+
+shared-slice-read-table : tie.Need-shared-slice-read-table
+shared-slice-read-table c = search needs
+
+mul-table-2 : tie.Need-mul-table-2
+mul-table-2 c =
+    let s = c .before .before .before .before .before .before .before .before .before .before .before .before .before .before .before .before .before .before .before .before .before .before .before in
+    let p = s .args .pairs .now in
+    let o = s .args .outputs .now in
+    let after = rw (right-part p o (s .pre)) at (c .before .before .before .copy3 .ensures) in
+    omega (arith, last-within p o (s .pre) (c .before .before .before .before .before .before .before .before .before .before .before .before .before .copy .ensures .place) (c .before .before .before .before .before .before .before .before .copy2 .ensures .place) (after .place), s .good .1 .0)
+
+slice-write-table : tie.Need-slice-write-table
+slice-write-table c =
+    let s = c .before .before .before .before .before .before .before .before .before .before .before .before .before .before .before .before .before .before .before .before .before .before .before in
+    let p = s .args .pairs .now in
+    let o = s .args .outputs .now in
+    let after = rw (right-part p o (s .pre)) at (c .before .before .before .copy3 .ensures) in
+    omega (arith, last-within p o (s .pre) (c .before .before .before .before .before .before .before .before .before .before .before .before .before .copy .ensures .place) (c .before .before .before .before .before .before .before .before .copy2 .ensures .place) (after .place), c .before .before .table4 .given, c .before .before .before .before .before .before .before .table3 .given, c .before .before .before .before .before .before .before .before .before .before .before .before .table2 .given, c .before .before .before .before .before .before .before .before .before .before .before .before .before .before .before .before .before .table .given)
+
 same-length : tie.Need-same-length
-same-length c = search needs
+same-length c =
+    rw length-set (c .before .before .table4 .given ∙ c .before .before .before .before .before .before .before .table3 .given ∙ c .before .before .before .before .before .before .before .before .before .before .before .before .table2 .given ∙ c .before .before .before .before .before .before .before .before .before .before .before .before .before .before .before .before .before .table .given)
 
 returns : tie.Need-returns
 returns c =
-    let s = c .before .before .before .before .before .before .before .before .before .before .before .before .before .before .before .before .before .before .before .before .before .before in
+    let s = c .before .before .before .before .before .before .before .before .before .before .before .before .before .before .before .before .before .before .before .before .before .before .before in
     let p = s .args .pairs .now in
     let o = s .args .outputs .now in
-    table-written (s .args .table .now) _ _ _
+    table-written (s .args .table .now) _ _ _ _
     (omega (arith, s .pre .room, rows-length p o (s .pre), left-length p o (s .pre), right-length p o (s .pre)))
-    (c .before .before .before .before .before .before .before .before .before .before .before .before .before .before .before .before .before .write-header .ensures) (c .before .before .before .before .before .before .before .before .before .before .before .before .copy .ensures) (c .before .before .before .before .before .before .before .copy2 .ensures) (rw (right-part p o (s .pre)) at (c .before .before .copy3 .ensures))
+    (c .before .before .before .before .before .before .before .before .before .before .before .before .before .before .before .before .before .before .write-header .ensures) (c .before .before .before .before .before .before .before .before .before .before .before .before .before .copy .ensures) (c .before .before .before .before .before .before .before .before .copy2 .ensures) (rw (right-part p o (s .pre)) at (c .before .before .before .copy3 .ensures))
 
 pub write-table-spec : {M : Type 1} → statement M
 write-table-spec =
@@ -119,5 +143,9 @@ write-table-spec =
     part-copy-start-2
     part-copy-end-2
     copy-requires-3
+    mul-table
+    shared-slice-read-table
+    mul-table-2
+    slice-write-table
     same-length
     returns)
