@@ -2,8 +2,8 @@
 use Prim.Native.Nat.{_%_, _*_, _+_, _/_, _<_, _≤_, ℕ}
 use Rattle.aig.proofs.OwnLaws.{length-own, own-holds}
 use Rattle.aig.specs.Lookup.{HoldsRow, firstWord, ownWords, secondWord}
-use Rattle.compare_model.proofs.GraphLaws.{count-vertices, fits, length-graph, literalIn, made-row}
-use Rattle.compare_model.specs.Compare.{graphWords, outputsLeft, problemOf, tableLeft}
+use Rattle.compare_model.proofs.GraphLaws.{count-own, length-graph, made-row, own-fits, ownProblem}
+use Rattle.compare_model.specs.Compare.{graphWords, literalIn, outputsLeft, tableLeft}
 use Rattle.sweep_model.proofs.Rows.{resolve-first, resolve-function, resolve-within}
 use Rattle.sweep_model.specs.Fit.{Sound}
 use Rattle.sweep_model.specs.Normalise.{resolve}
@@ -11,9 +11,9 @@ use Rattle.sweep_model.specs.State.{Limits}
 use Rattle.table.proofs.FunctionLaws.{function-first, functions-unique, length-functions}
 use Rattle.table.proofs.LayoutLaws.{graph-outputs, length-output-words, length-rows, row-at, side-output-word, side-start-bound}
 use Rattle.table.specs.Accepted.{Accepted, RowBelow}
-use Rattle.table.specs.Table.{functionsOf, graphOf, inputsOf, madeOf, outputFunction, outputWords, outputsOf, promised, rowsOf, sideStart, verticesOf}
+use Rattle.table.specs.Table.{constraintOf, functionsOf, graphOf, inputsOf, madeOf, outputFunction, outputWords, outputsOf, promised, rowsOf, sideStart, verticesOf}
 use lib.ListN.{List·getD-append, List·getD-map, drop, getD, length, length-append, length-drop, length-map, take, take-append-drop}
-use lib.Seq.{drop-at, drop-drop, ext-getD, getD-take, length-take-le, take-at}
+use lib.Seq.{drop-at, drop-drop, ext-getD, getD-drop, getD-take, length-take-le, take-at}
 use mathlib.Core.List.{List, _++_, append-assoc}
 use mathlib.Core.Path.{_∙_, _≡_, ap, ap₂, subst, sym}
 use native.Mathlib.Decide.{ℕ-discrete}
@@ -34,6 +34,10 @@ module _ (table : List ℕ) (whole : promised (madeOf table) (outputsOf table) �
   abbrev made : List ℕ
   made = drop (2 * (1 + inputsOf table)) rows
 
+  -- The word after the outputs, r's.
+  abbrev end : ℕ
+  end = 3 + 2 * madeOf table + 2 * outputsOf table
+
   abbrev references : List ℕ
   references = outputsLeft table rows
 
@@ -47,12 +51,12 @@ module _ (table : List ℕ) (whole : promised (madeOf table) (outputsOf table) �
   pub length-header : length (take 3 table) ≡ 3
   length-header = length-take-le 3 table (omega arith)
 
-  length-written : length (take 3 table ++ (made ++ references)) ≡ promised (madeOf table) (outputsOf table)
+  length-written : length (take 3 table ++ (made ++ references)) ≡ end
   length-written = simp length-append (omega (arith, length-header, length-made, length-references))
 
   -- The words, part by part.
   pub left-words : tableLeft table rows
-      ≡ take 3 table ++ (drop (2 * (1 + inputsOf table)) rows ++ (outputsLeft table rows ++ drop (promised (madeOf table) (outputsOf table)) table))
+      ≡ take 3 table ++ (drop (2 * (1 + inputsOf table)) rows ++ (outputsLeft table rows ++ drop end table))
   unfolding tableLeft
   left-words = rw length-written (simp append-assoc)
 
@@ -73,17 +77,27 @@ module _ (table : List ℕ) (whole : promised (madeOf table) (outputsOf table) �
   outputs-kept : outputsOf (tableLeft table rows) ≡ outputsOf table
   outputs-kept = header-kept 2 (omega arith)
 
-  after-header : drop 3 (tableLeft table rows) ≡ made ++ (references ++ drop (promised (madeOf table) (outputsOf table)) table)
+  after-header : drop 3 (tableLeft table rows) ≡ made ++ (references ++ drop end table)
   after-header = rw left-words (drop-at (take 3 table) _ 3 length-header)
 
-  after-rows : drop (3 + 2 * madeOf table) (tableLeft table rows) ≡ references ++ drop (promised (madeOf table) (outputsOf table)) table
+  after-rows : drop (3 + 2 * madeOf table) (tableLeft table rows) ≡ references ++ drop end table
   after-rows = sym (drop-drop (2 * madeOf table) 3 (tableLeft table rows)) ∙ rw after-header (drop-at made _ (2 * madeOf table) length-made)
 
   -- The words after the graph stay.
-  pub rest-kept : drop (promised (madeOf table) (outputsOf table)) (tableLeft table rows) ≡ drop (promised (madeOf table) (outputsOf table)) table
+  pub rest-kept : drop end (tableLeft table rows) ≡ drop end table
   rest-kept =
       sym (drop-drop (2 * outputsOf table) (3 + 2 * madeOf table) (tableLeft table rows))
       ∙ rw after-rows (drop-at references _ (2 * outputsOf table) length-references)
+
+  -- So does r's, the first of them.
+  constraint-kept : constraintOf (tableLeft table rows) ≡ constraintOf table
+  constraint-kept =
+      rw (made-kept, outputs-kept)
+      (ap (λ (n : ℕ). getD (tableLeft table rows) n 0) (omega arith)
+      ∙ sym (getD-drop end (tableLeft table rows) 0 0)
+      ∙ ap (λ (ws : List ℕ). getD ws 0 0) rest-kept
+      ∙ getD-drop end table 0 0
+      ∙ ap (λ (n : ℕ). getD table n 0) (omega arith))
 
   -- Its output words are those left.
   outputs-became : outputWords (tableLeft table rows) ≡ outputsLeft table rows
@@ -122,13 +136,12 @@ record LiteralKept (table : List ℕ) (old new : ℕ) : Type 0 where
   function : literalIn table new ≡ literalIn table old
 
 -- Rows that a sweep of an accepted table leaves: two words a vertex, and each vertex has its function.
-pub record Swept (table : List ℕ) (output : ℕ) (limits : Limits) (rows : List ℕ) : Type 0 where
+pub record Swept (table : List ℕ) (limits : Limits) (rows : List ℕ) : Type 0 where
   pub accepted : Accepted table
-  pub looked-at : output < outputsOf table
   pub long : length rows ≡ length (graphWords table)
-  pub sound : Sound (problemOf table output limits) rows
+  pub sound : Sound (ownProblem table limits) rows
 
-module _ {table : List ℕ} {output : ℕ} {limits : Limits} {rows : List ℕ} (swept : Swept table output limits rows) where
+module _ {table : List ℕ} {limits : Limits} {rows : List ℕ} (swept : Swept table limits rows) where
   abbrev left : List ℕ
   left = tableLeft table rows
 
@@ -153,9 +166,12 @@ module _ {table : List ℕ} {output : ℕ} {limits : Limits} {rows : List ℕ} (
   pub outputs-left : outputsOf (tableLeft table rows) ≡ outputsOf table
   outputs-left = outputs-kept table whole rows two-each
 
+  -- Its r is the same.
+  pub constraint-left : constraintOf (tableLeft table rows) ≡ constraintOf table
+  constraint-left = constraint-kept table whole rows two-each
+
   -- Its rows are those that the sweep left.
   pub graph-left : graphWords (tableLeft table rows) ≡ rows
-  unfolding problemOf
   graph-left = rows-left table whole rows two-each (swept .sound .downward .own)
 
   row-left : (i : ℕ) → i < madeOf table → getD (rowsOf left) i (0, 0) ≡ (firstWord rows (first + i), secondWord rows (first + i))
@@ -164,9 +180,8 @@ module _ {table : List ℕ} {output : ℕ} {limits : Limits} {rows : List ℕ} (
       row-at left i (0, 0) (omega (arith, made-left)) ∙ ap₂ (λ (x y : ℕ). (x, y)) (sym (w .first)) (sym (w .second))
 
   below-left : (i : ℕ) → i < madeOf table → RowBelow (2 * (first + i)) (getD (rowsOf left) i (0, 0))
-  unfolding problemOf
   below-left i h =
-      let c = count-vertices table output limits in
+      let c = count-own table limits in
       rw (row-left i h)
       (record {
         first = swept .sound .downward .first-below (first + i) (omega arith) (omega arith);
@@ -178,18 +193,17 @@ module _ {table : List ℕ} {output : ℕ} {limits : Limits} {rows : List ℕ} (
 
   -- What a literal became keeps its function.
   resolve-kept : (r : ℕ) → r < 2 * verticesOf table → LiteralKept table r (resolve rows r)
-  unfolding problemOf
   resolve-kept r l =
-      let c = count-vertices table output limits in
+      let c = count-own table limits in
       record {
         within = resolve-within (swept .sound .downward) r (verticesOf table) (omega arith) l;
         function =
-            resolve-function (problemOf table output limits) (fits table output limits (swept .accepted) (swept .looked-at) .well-formed) (swept .sound) r (rw c l);
+            resolve-function (ownProblem table limits) (own-fits table limits (swept .accepted) .well-formed) (swept .sound) r (rw c l);
       }
 
   -- Every output keeps its function.
   output-kept : (j : ℕ) → j < 2 * outputsOf table → LiteralKept table (getD (outputWords table) j 0) (getD (outputsLeft table rows) j 0)
-  unfolding outputsLeft problemOf
+  unfolding outputsLeft
   output-kept j h =
       subst (LiteralKept table (getD (outputWords table) j 0))
       (sym (List·getD-map (resolve rows) (outputWords table) j 0)
@@ -214,17 +228,18 @@ module _ {table : List ℕ} {output : ℕ} {limits : Limits} {rows : List ℕ} (
             let l : j < 2 * outputsOf table =
             omega (arith, ap length (outputs-became table whole rows two-each), length-references table whole rows two-each) in
             rw (outputs-became table whole rows two-each, inputs-left, made-left) (output-kept j l .within);
+        constraint = rw (constraint-left, inputs-left, made-left) (swept .accepted .constraint);
       }
 
   -- Every vertex has the function that it had.
   pub functions-left : functionsOf (graphOf (tableLeft table rows)) ≡ functionsOf (graphOf table)
-  unfolding graphOf problemOf
+  unfolding graphOf
   functions-left =
       functions-unique (graphOf left) (functionsOf (graphOf table)) (accepted-left .rows)
       (omega (arith, length-functions (graphOf table), length-rows table, length-rows left, inputs-left, made-left))
       (λ v h. rw inputs-left (function-first (graphOf table) v (omega (arith, inputs-left))))
       (λ i h.
-      let c = count-vertices table output limits in
+      let c = count-own table limits in
       let l : i < madeOf table = omega (arith, length-rows left, made-left) in
       rw (inputs-left, row-left i l) (swept .sound .means (first + i) (omega arith) (omega arith)))
 

@@ -1,4 +1,5 @@
 pub mod RefusalLaws
+pub mod NextLaws
 pub mod GraphLaws
 pub mod LeftLaws
 pub mod Since

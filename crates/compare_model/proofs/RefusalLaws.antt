@@ -1,12 +1,12 @@
 -- A comparison is refused, or every bound holds and the sweep answers.
 use Prim.Native.Nat.{_*_, ℕ}
-use Rattle.compare_model.specs.Compare.{CompareRoom, Given, answerTo, answered, beyond?, compared, maxRows, maxSteps, outside?, refusalOf, shortSlice?, sliceWords, turnedBack}
+use Rattle.compare_model.specs.Compare.{CompareRoom, Given, answerTo, answered, beyond?, compared, maxRows, maxSteps, outside?, refusalOf, shortSlice?, sliceWords, turnedBack, vertexRoom}
 use Rattle.compare_model.specs.Passed.{Enough, LimitsWithin, Passed, Within}
 use Rattle.sweep_model.specs.State.{Limits}
 use Rattle.table.proofs.AcceptedLaws.{accepted}
 use Rattle.table.proofs.RefusalLaws.{first-passed, none-applies, table-passed}
 use Rattle.table.specs.Refusals.{Test}
-use Rattle.table.specs.Table.{inputsOf, outputsOf, tableTests, verticesOf}
+use Rattle.table.specs.Table.{inputsOf, outputsOf, tableTests}
 use Rattle.truth.proofs.Booleans.{neither}
 use borrow.Author.Tests.{eq-eqb, leb-false, leb-true, ltb-false, ne-eqb, not-false}
 use lib.Dec.{leb, ltb}
@@ -34,7 +34,7 @@ limits-within l h =
       steps = limit-within maxSteps (l .steps) (p .1);
     }
 
-slices-enough : (vertices rows : ℕ) (r : CompareRoom) (marks : ℕ) → shortSlice? vertices rows r marks ≡ false → Enough vertices rows r marks
+pub slices-enough : (vertices rows : ℕ) (r : CompareRoom) (marks : ℕ) → shortSlice? vertices rows r marks ≡ false → Enough vertices rows r marks
 unfolding shortSlice?
 slices-enough vertices rows r marks h =
     let p = neither (pairs || look || diagrams || stages || diagram-rows) (ltb marks vertices) h in
@@ -75,13 +75,13 @@ module _ (g : Given) where
       let a = none-applies 12 (leb (outputsOf (g .table)) (g .output)) (limit-test ∷ slice-test ∷ setting-test ∷ []) (omega arith)
       (sym (table-passed (g .table) own t) ∙ h) in
       let b = none-applies 13 (beyond? (g .limits)) (slice-test ∷ setting-test ∷ []) (omega arith) (a .1) in
-      let c = none-applies 14 (shortSlice? (verticesOf (g .table)) (g .limits .rows) (g .room) (length (g .marks))) (setting-test ∷ []) (omega arith) (b .1) in
+      let c = none-applies 14 (shortSlice? (vertexRoom (g .table)) (g .limits .rows) (g .room) (length (g .marks))) (setting-test ∷ []) (omega arith) (b .1) in
       let d = none-applies 15 (ltb (length (g .setting)) (inputsOf (g .table))) [] (omega arith) (c .1) in
       record {
         table = accepted (g .table) t;
         output = leb-false (outputsOf (g .table)) (g .output) (a .0);
         limits = limits-within (g .limits) (b .0);
-        room = slices-enough (verticesOf (g .table)) (g .limits .rows) (g .room) (length (g .marks)) (c .0);
+        room = slices-enough (vertexRoom (g .table)) (g .limits .rows) (g .room) (length (g .marks)) (c .0);
         setting = ltb-false (length (g .setting)) (inputsOf (g .table)) (d .0);
       }
     where
@@ -89,7 +89,7 @@ module _ (g : Given) where
       limit-test = record { answer = 13; applies = beyond? (g .limits) }
 
       slice-test : Test ℕ
-      slice-test = record { answer = 14; applies = shortSlice? (verticesOf (g .table)) (g .limits .rows) (g .room) (length (g .marks)) }
+      slice-test = record { answer = 14; applies = shortSlice? (vertexRoom (g .table)) (g .limits .rows) (g .room) (length (g .marks)) }
 
       setting-test : Test ℕ
       setting-test = record { answer = 15; applies = ltb (length (g .setting)) (inputsOf (g .table)) }

@@ -5,9 +5,10 @@ use Rattle.compare_model.specs.Said.{Said}
 use Rattle.table.specs.Fits.{Fits, word}
 use lib.ListN.{length}
 
--- "Vertex 0 is constant false, vertices 1 to inputs are the inputs", made vertices follow: how many there are, by the table. (RULES 1.6, 4.3)
+-- "Vertex 0 is constant false, vertices 1 to inputs are the inputs", made vertices follow, and "two vertices more": for how many there is to be
+-- room. (RULES 1.6, 4.3, 8.2)
 abbrev pub vertexCount : Given → ℕ
-vertexCount g = 1 + word (g .table) 0 + word (g .table) 1
+vertexCount g = 1 + word (g .table) 0 + word (g .table) 1 + 2
 
 -- The table keeps its rules; the output is one of them; "1 to 32,768" for the size and the row limit, "1 to 4,294,967,295" for the step
 -- limit; "four slices of 2 words a vertex", "4 words a row of the limit and the marks", one byte a vertex; a byte an input. (RULES 2.4, 8.1, 8.2)

@@ -1,9 +1,9 @@
 -- What is known of a comparison that is not refused.
 use Prim.Native.Nat.{_*_, _<_, _≤_, ℕ}
-use Rattle.compare_model.specs.Compare.{CompareRoom, Given, maxRows, maxSteps, sliceWords}
+use Rattle.compare_model.specs.Compare.{CompareRoom, Given, maxRows, maxSteps, sliceWords, vertexRoom}
 use Rattle.sweep_model.specs.State.{Limits}
 use Rattle.table.specs.Accepted.{Accepted}
-use Rattle.table.specs.Table.{inputsOf, outputsOf, verticesOf}
+use Rattle.table.specs.Table.{inputsOf, outputsOf}
 use lib.ListN.{length}
 
 -- A limit is from 1 to a most.
@@ -31,5 +31,5 @@ pub record Passed (g : Given) : Type 0 where
   pub table : Accepted (g .table)
   pub output : g .output < outputsOf (g .table)
   pub limits : LimitsWithin (g .limits)
-  pub room : Enough (verticesOf (g .table)) (g .limits .rows) (g .room) (length (g .marks))
+  pub room : Enough (vertexRoom (g .table)) (g .limits .rows) (g .room) (length (g .marks))
   pub setting : inputsOf (g .table) ≤ length (g .setting)
