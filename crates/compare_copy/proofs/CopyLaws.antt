@@ -3,16 +3,19 @@ use Prim.Native.Nat.{_*_, _+_, _-_, _<_, _≤_, suc, ℕ}
 use Rattle.aig.proofs.OwnLaws.{length-own}
 use Rattle.aig.specs.Literal.{vertexOf}
 use Rattle.aig.specs.Lookup.{ownWords}
+use Rattle.compare_model.proofs.GraphLaws.{length-graph}
 use Rattle.compare_model.proofs.LeftLaws.{left-words, length-header, length-made}
-use Rattle.compare_model.specs.Compare.{graphWords, outputsLeft, overFront, tableLeft}
+use Rattle.compare_model.specs.Compare.{entryRows, graphWords, nextRows, outputOf, outputsLeft, overFront, rowWords, tableLeft, vertexRoom}
 use Rattle.sweep_model.specs.Normalise.{resolve}
-use Rattle.table.specs.Table.{inputsOf, madeOf, outputWords, outputsOf, promised, verticesOf}
-use Rattle.text.proofs.DecimalLaws.{written-append}
+use Rattle.table.specs.Table.{constraintOf, inputsOf, madeOf, outputWords, outputsOf, promised, verticesOf}
+use Rattle.text.proofs.DecimalLaws.{written-append, written-length, written-one}
 use Rattle.text.specs.Decimal.{written}
+use borrow.Author.Tests.{eq-eqb, ne-eqb}
 use borrow.Rule.Slice.PartMut.{putMid}
 use lib.ListN.{drop, getD, length, length-append, length-drop, length-map, set, take}
 use lib.Seq.{append-snoc, drop-at, drop-cons, drop-drop, drop-length, getD-at, length-take-le, set-at, take-all, take-at, take-length, take-suc}
 use mathlib.Core.List.{List, [], _++_, _∷_, append-assoc, append-nil, map}
+use mathlib.Core.Logic.{_≢_}
 use mathlib.Core.Path.{_∙_, _≡_, ap, ap₂, refl, subst, sym}
 use native.Mathlib.Numerals.{add-one}
 use native.Mathlib.Omega.{arith}
@@ -82,6 +85,50 @@ rows-copied table old between new room e f =
     rows : List ℕ
     rows = take (2 * madeOf table) (drop 3 table)
 
+-- Two words set are a row written.
+pub row-written : (old : List ℕ) (at a b : ℕ) → at + 2 ≤ length old → set (set old at a) (at + 1) b ≡ written old at (a ∷ b ∷ [])
+row-written old at a b room =
+    ap (λ (ws : List ℕ). set ws (at + 1) b) (written-one old at a (omega arith))
+    ∙ written-one (written old at (a ∷ [])) (at + 1) b (omega (arith, written-length old at (a ∷ []) (omega arith)))
+    ∙ written-append old at (a ∷ []) (omega arith) (b ∷ [])
+
+-- Where the constraint is 1, the rows that the sweep starts from are the table's;
+pub entry-own-rows : (table : List ℕ) (output : ℕ) → constraintOf table ≡ 1 → entryRows table output ≡ graphWords table
+unfolding entryRows nextRows rowWords
+entry-own-rows table output e = rw (eq-eqb (constraintOf table) 1 e) (append-nil (graphWords table))
+
+-- else those of the two next vertices are written after the table's.
+pub entry-written : (table : List ℕ) (output : ℕ) → constraintOf table ≢ 1 → promised (madeOf table) (outputsOf table) ≤ length table
+    → (old own one both : List ℕ) → 2 * vertexRoom table ≤ length old → own ≡ overFront (graphWords table) old
+    → one ≡ written own (2 * verticesOf table) (constraintOf table ∷ outputOf table 1 output ∷ [])
+    → both ≡ written one (2 * verticesOf table + 2) (constraintOf table ∷ outputOf table 2 output ∷ [])
+    → both ≡ overFront (entryRows table output) old
+unfolding entryRows nextRows rowWords
+entry-written table output n whole old own one both room e f g =
+    rw (ne-eqb (constraintOf table) 1 n)
+    (g ∙ ap₂ (λ (ws : List ℕ) (at : ℕ). written ws at (row 2)) first-written (sym (omega (arith, length-append graph (row 1), l)))
+    ∙ written-append old 0 (graph ++ row 1) (omega (arith, length-append graph (row 1), l)) (row 2)
+    ∙ written-front old ((graph ++ row 1) ++ row 2)
+    ∙ ap (λ (ws : List ℕ). overFront ws old) (append-assoc graph (row 1) (row 2)))
+  where
+    graph : List ℕ
+    graph = graphWords table
+
+    row : ℕ → List ℕ
+    row side = constraintOf table ∷ outputOf table side output ∷ []
+
+    l : length graph ≡ 2 * verticesOf table
+    l = length-graph table whole
+
+    first-written : one ≡ written old 0 (graph ++ row 1)
+    first-written =
+        f ∙ ap₂ (λ (ws : List ℕ) (at : ℕ). written ws at (row 1)) (e ∙ sym (written-front old graph)) (sym (omega (arith, l)))
+        ∙ written-append old 0 graph (omega (arith, l)) (row 1)
+
+-- The word after the output references.
+abbrev pub outputsEnd : List ℕ → ℕ
+outputsEnd table = 3 + 2 * madeOf table + 2 * outputsOf table
+
 -- Rows of a table's vertices written over its own.
 module _ (table rows between : List ℕ) (whole : promised (madeOf table) (outputsOf table) ≤ length table) (long : length rows ≡ 2 * verticesOf table)
     (copied : between ≡ written table 3 (take (length rows - 2 * (1 + inputsOf table)) (drop (2 * (1 + inputsOf table)) rows))) where
@@ -109,30 +156,30 @@ module _ (table rows between : List ℕ) (whole : promised (madeOf table) (outpu
   rest-words = ap (drop from) between-words ∙ drop-at front (drop from table) from length-front
 
   -- The words then lent are the table's output references.
-  pub outputs-lent : take (promised (madeOf table) (outputsOf table) - (3 + 2 * madeOf table)) (drop (3 + 2 * madeOf table) between) ≡ outputWords table
+  pub outputs-lent : take (outputsEnd table - (3 + 2 * madeOf table)) (drop (3 + 2 * madeOf table) between) ≡ outputWords table
   unfolding outputWords
-  outputs-lent = let n : promised (madeOf table) (outputsOf table) - from ≡ 2 * outputsOf table = omega arith in rw (n, rest-words) refl
+  outputs-lent = let n : outputsEnd table - from ≡ 2 * outputsOf table = omega arith in rw (n, rest-words) refl
 
   -- They name vertices that have rows.
   pub outputs-within : ((k : ℕ) → k < length (outputWords table) → getD (outputWords table) k 0 < 2 * verticesOf table)
       → (k : ℕ)
-      → k < length (take (promised (madeOf table) (outputsOf table) - (3 + 2 * madeOf table)) (drop (3 + 2 * madeOf table) between))
-      → 2 * vertexOf (getD (take (promised (madeOf table) (outputsOf table) - (3 + 2 * madeOf table)) (drop (3 + 2 * madeOf table) between)) k 0) + 1 < length rows
+      → k < length (take (outputsEnd table - (3 + 2 * madeOf table)) (drop (3 + 2 * madeOf table) between))
+      → 2 * vertexOf (getD (take (outputsEnd table - (3 + 2 * madeOf table)) (drop (3 + 2 * madeOf table) between)) k 0) + 1 < length rows
   outputs-within below =
       subst (λ (ws : List ℕ). (k : ℕ) → k < length ws → 2 * vertexOf (getD ws k 0) + 1 < length rows) (sym outputs-lent) (λ k h. omega (arith, below k h))
 
   -- With what they became, the table is as a comparison leaves it.
   pub outputs-resolved : (words : List ℕ)
-      → words ≡ map (resolve rows) (take (promised (madeOf table) (outputsOf table) - (3 + 2 * madeOf table)) (drop (3 + 2 * madeOf table) between))
-      → putMid (3 + 2 * madeOf table) (promised (madeOf table) (outputsOf table) - (3 + 2 * madeOf table)) between words ≡ tableLeft table rows
+      → words ≡ map (resolve rows) (take (outputsEnd table - (3 + 2 * madeOf table)) (drop (3 + 2 * madeOf table) between))
+      → putMid (3 + 2 * madeOf table) (outputsEnd table - (3 + 2 * madeOf table)) between words ≡ tableLeft table rows
   unfolding outputsLeft
   outputs-resolved words e =
-      let n : promised (madeOf table) (outputsOf table) - from ≡ 2 * outputsOf table = omega arith in
-      let after : drop (promised (madeOf table) (outputsOf table) - from) (drop from between) ≡ drop (promised (madeOf table) (outputsOf table)) table =
+      let n : outputsEnd table - from ≡ 2 * outputsOf table = omega arith in
+      let after : drop (outputsEnd table - from) (drop from between) ≡ drop (outputsEnd table) table =
       rw (rest-words, n) (drop-drop (2 * outputsOf table) from table)
       in
       ap₂ (λ (ws more : List ℕ). take from between ++ (ws ++ more)) (e ∙ ap (map (resolve rows)) outputs-lent) after
-      ∙ ap (λ (l : List ℕ). l ++ (map (resolve rows) (outputWords table) ++ drop (promised (madeOf table) (outputsOf table)) table))
+      ∙ ap (λ (l : List ℕ). l ++ (map (resolve rows) (outputWords table) ++ drop (outputsEnd table) table))
       (ap (take from) between-words ∙ take-at front (drop from table) from length-front)
       ∙ append-assoc (take 3 table) (drop first rows) _
       ∙ sym (left-words table whole rows long)

@@ -1,5 +1,6 @@
 // The refusals of compare: 10 to 15.
 use compare_model::Limits;
+use compare_model::NEXT_VERTICES;
 ghost use Prim.Native.Nat.{_<_, _^_};
 ghost use Rattle.compare_model.specs.Compare.{beyond?, callTests, limitsOf, outside?, shortSlice?};
 ghost use Rattle.compare_refusal.specs.code.Room.{roomOf};
@@ -46,7 +47,7 @@ fn is_beyond(limits: Limits) -> bool
 }
 
 // Whether a working slice or the marks are short for some vertices and a row limit.
-fn is_short(vertices: usize, rows: u32, lengths: Lengths) -> bool
+pub fn is_short(vertices: usize, rows: u32, lengths: Lengths) -> bool
     requires { ⌜ vertices < 2 ^ 32 ⌝ }
     ensures { λ r. ⌜ r ≡ shortSlice? vertices rows (roomOf lengths) (lengths .marks) ⌝ }
 {
@@ -80,7 +81,7 @@ fn call_refusal(table: &[u32], output: u32, limits: Limits, lengths: Lengths) ->
     if is_beyond(limits) {
         return 13;
     }
-    if is_short(table::vertices(table), limits.rows, lengths) {
+    if is_short(table::vertices(table) + NEXT_VERTICES, limits.rows, lengths) {
         return 14;
     }
     if lengths.setting < table::inputs(table) as usize {

@@ -1,7 +1,7 @@
 -- What compare gives back and leaves, refused or not, is the comparison.
-use Prim.Native.Nat.{_*_, ℕ}
+use Prim.Native.Nat.{_*_, _+_, ℕ}
 use Rattle.compare_model.proofs.RefusalLaws.{compared-answered, compared-refused}
-use Rattle.compare_model.specs.Compare.{Given, answerTo, answered, callTests, compared, refusalOf, saidBy, settingLeft, tableLeft, turnedBack}
+use Rattle.compare_model.specs.Compare.{Given, answerTo, answered, callTests, compared, nextRows, ownRows, refusalOf, saidBy, settingLeft, tableLeft, turnedBack}
 use Rattle.compare_model.specs.Passed.{Passed}
 use Rattle.compare_model.specs.Said.{Said, saidOf}
 use Rattle.comparer.specs.Lent.{left}
@@ -14,9 +14,11 @@ use Rattle.sweep_model.specs.declared.Reply.{Reply}
 use Rattle.table.specs.Refusals.{firstRefusal}
 use Rattle.table.specs.Table.{inputsOf, tableTests, verticesOf}
 use lib.ListN.{length, take}
+use lib.Seq.{take-take}
 use mathlib.Core.List.{List, _++_}
 use mathlib.Core.Logic.{_≢_}
 use mathlib.Core.Path.{_∙_, _≡_, ap, ap₂, sym}
+use native.Mathlib.Omega.{arith}
 
 module _ (g : Given) where
   -- The first refusal, by the lengths of the slices.
@@ -46,16 +48,20 @@ module _ (g : Given) where
           counted = ran .counted;
         }
 
+    -- The rows of the table's own vertices stand first in the pairs.
+    own-rows : ownRows (g .table) (answerTo g .left .rows) ≡ take (2 * verticesOf (g .table)) pairs
+    own-rows = ap (take (2 * verticesOf (g .table))) (ran .rows-left) ∙ take-take (2 * verticesOf (g .table)) (2 * (verticesOf (g .table) + length (nextRows (g .table) (g .output)))) pairs (omega arith)
+
     -- What was finished is the comparison.
     pub finished : refusalOf g ≡ 0 → (reply : Reply) (table setting : List ℕ) → table ≡ tableLeft (g .table) (take (2 * verticesOf (g .table)) pairs)
         → setting ≡ settingLeft (verdictOf rows (inputsOf (g .table)) (e .end)) (g .setting)
         → saidOf reply ≡ saidBy (verdictOf rows (inputsOf (g .table)) (e .end)) (e .used) (e .steps) (e .added) → left (saidOf reply) table marks setting ≡ compared g
     unfolding answered
     finished h reply table setting t s r =
-        let table-left : table ≡ tableLeft (g .table) (answerTo g .left .rows) = t ∙ ap (tableLeft (g .table)) (sym (ran .rows-left)) in
+        let table-left : table ≡ tableLeft (g .table) (ownRows (g .table) (answerTo g .left .rows)) = t ∙ ap (tableLeft (g .table)) (sym own-rows) in
         let setting-left : setting ≡ settingLeft (answerTo g .verdict) (g .setting) = s ∙ ap (λ (v : Verdict). settingLeft v (g .setting)) (sym (ran .verdict)) in
         let replied : saidOf reply ≡ saidBy (answerTo g .verdict) (length (answerTo g .left .book .store)) (answerTo g .left .book .steps) (answerTo g .added) =
         r ∙ sym (rw (ran .verdict, ran .rows-used, ran .steps-taken, ran .rows-added)) in
         ap₂ (λ (x : Said) (ws : List ℕ). left x ws marks setting) replied table-left
-        ∙ ap₂ (left (answered g (answerTo g) .reply) (tableLeft (g .table) (answerTo g .left .rows))) (sym (ran .marks-left)) setting-left
+        ∙ ap₂ (left (answered g (answerTo g) .reply) (tableLeft (g .table) (ownRows (g .table) (answerTo g .left .rows)))) (sym (ran .marks-left)) setting-left
         ∙ sym (compared-answered g h)

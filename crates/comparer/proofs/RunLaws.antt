@@ -1,8 +1,8 @@
 -- What the sweep is asked where no refusal applies, and what its end says of the comparison.
 use Prim.Native.Nat.{_*_, _<_, _≤_, ℕ}
 use Rattle.bdd.proofs.StoreLaws.{store-length}
-use Rattle.compare_model.proofs.GraphLaws.{count-vertices, fits, length-graph}
-use Rattle.compare_model.specs.Compare.{answerTo, graphWords, limitsOf, overFront, problemOf}
+use Rattle.compare_model.proofs.GraphLaws.{count-vertices, fits, length-entry, next-few}
+use Rattle.compare_model.specs.Compare.{answerTo, entryRows, limitsOf, overFront, problemOf, vertexRoom}
 use Rattle.compare_model.specs.Passed.{Enough, LimitsWithin}
 use Rattle.compare_model.specs.declared.Limits.{Limits}
 use Rattle.comparer.specs.Lent.{given, holding, roomOfLists}
@@ -18,7 +18,7 @@ use Rattle.sweep_model.proofs.Kept.{sweep-steady}
 use Rattle.sweep_model.specs.Fit.{Fit}
 use Rattle.sweep_model.specs.Sweep.{Result, sweep}
 use Rattle.table.specs.Accepted.{Accepted}
-use Rattle.table.specs.Table.{functionsOf, graphOf, outputsOf, verticesOf}
+use Rattle.table.specs.Table.{outputsOf}
 use Rattle.truth.specs.Truth.{Truth}
 use lib.ListN.{drop, length, length-append, take}
 use lib.Seq.{length-take-le, take-all, take-at}
@@ -26,25 +26,31 @@ use mathlib.Core.List.{List, _++_}
 use mathlib.Core.Path.{_∙_, _≡_, ap, refl, sym}
 use native.Mathlib.Omega.{arith}
 
--- A table and limits that pass, the task, and the pairs with the table's rows copied to their front.
-module _ (table : List ℕ) (output : ℕ) (limits : Limits) (accepted : Accepted table) (known : output < outputsOf table)
-    (within : LimitsWithin (limitsOf limits)) (t : Task) (task : Posed table output limits t) (old lent : List ℕ) (copied : lent ≡ overFront (graphWords table) old) where
-  -- The functions of the table's vertices.
-  abbrev functions : List Truth
-  functions = functionsOf (graphOf table)
+-- A task has no more vertices than there is room for.
+pub posed-few : {table : List ℕ} {output : ℕ} {limits : Limits} {t : Task} → Posed table output limits t → t .count ≤ vertexRoom table
+posed-few {table} {output} {limits} h = omega (arith, h .count, next-few table output (limitsOf limits))
 
-  -- The words lent are the table's rows.
-  entry-words : take (2 * t .count) lent ≡ graphWords table
-  entry-words = rw (task .count, copied) (take-at (graphWords table) _ (2 * verticesOf table) (length-graph table (accepted .formed .whole)))
+-- A table and limits that pass, the task, and the pairs with the rows of the table's vertices and the next ones copied to their front.
+module _ (table : List ℕ) (output : ℕ) (limits : Limits) (accepted : Accepted table) (known : output < outputsOf table)
+    (within : LimitsWithin (limitsOf limits)) (t : Task) (task : Posed table output limits t) (old lent : List ℕ) (copied : lent ≡ overFront (entryRows table output) old) where
+  -- The functions of the vertices.
+  abbrev functions : List Truth
+  functions = problemOf table output (limitsOf limits) .functions
+
+  -- There are two words a vertex.
+  length-rows : length (entryRows table output) ≡ 2 * t .count
+  length-rows = length-entry table output (limitsOf limits) (accepted .formed .whole) ∙ ap (λ (n : ℕ). 2 * n) (sym (task .count))
+
+  -- The words lent are those that the sweep starts from.
+  entry-words : take (2 * t .count) lent ≡ entryRows table output
+  entry-words = rw copied (take-at (entryRows table output) _ (2 * t .count) length-rows)
 
   -- There are enough.
   pub lent-long : 2 * t .count ≤ length lent
-  lent-long =
-      rw copied
-      (omega (arith, task .count, length-append (graphWords table) (drop (length (graphWords table)) old), length-graph table (accepted .formed .whole)))
+  lent-long = rw copied (omega (arith, length-append (entryRows table output) (drop (length (entryRows table output)) old), length-rows))
 
   -- The table gives the sweep what it is started on.
-  table-fits : Fit (problemOf table output (limitsOf limits)) (graphWords table)
+  table-fits : Fit (problemOf table output (limitsOf limits)) (entryRows table output)
   table-fits = fits table output (limitsOf limits) accepted known
 
   -- They are the rows of a graph whose vertices have these functions.
@@ -54,10 +60,10 @@ module _ (table : List ℕ) (output : ℕ) (limits : Limits) (accepted : Accepte
 
   -- The other slices, long enough.
   module _ (pairs look diagrams stages rows marks : List ℕ)
-      (room : Enough (verticesOf table) (limits .rows) (roomOfLists pairs look diagrams stages rows) (length marks)) where
+      (room : Enough (vertexRoom table) (limits .rows) (roomOfLists pairs look diagrams stages rows) (length marks)) where
     -- As many marks are lent as there are vertices.
     pub lent-marks : length (take (t .count) marks) ≡ t .count
-    lent-marks = length-take-le (t .count) marks (omega (arith, task .count, room .marked))
+    lent-marks = length-take-le (t .count) marks (omega (arith, posed-few task, room .marked))
 
     -- What the sweep is lent.
     abbrev pub lentWorkspace : Workspace
@@ -69,14 +75,14 @@ module _ (table : List ℕ) (output : ℕ) (limits : Limits) (accepted : Accepte
         record {
           functions = functions;
           has-functions = has-functions;
-          few = omega (arith, task .count, accepted .formed .inputs, accepted .formed .made);
+          few = omega (arith, posed-few task, accepted .formed .inputs, accepted .formed .made);
           narrow = omega (arith, task .inputs, accepted .formed .inputs);
           modest = omega (arith, task .size, within .size .bounded);
           most = omega (arith, task .rows, within .rows .bounded);
           short = omega (arith, task .steps, within .steps .bounded);
-          look-long = omega (arith, task .count, room .look);
-          diagrams-long = omega (arith, task .count, room .diagrams);
-          stages-long = omega (arith, task .count, room .stages);
+          look-long = omega (arith, posed-few task, room .look);
+          diagrams-long = omega (arith, posed-few task, room .diagrams);
+          stages-long = omega (arith, posed-few task, room .stages);
           rows-long = omega (arith, task .rows, room .diagram-rows);
           marks-long = omega (arith, lent-marks);
         }
@@ -86,7 +92,7 @@ module _ (table : List ℕ) (output : ℕ) (limits : Limits) (accepted : Accepte
         (kept : length (after .arrays .marks) ≡ length (take (t .count) marks)) where
       -- The model's answer.
       abbrev answer : Result
-      answer = sweep (problemOf table output (limitsOf limits)) (graphWords table)
+      answer = sweep (problemOf table output (limitsOf limits)) (entryRows table output)
 
       -- It is that of the end and of what the slices hold.
       answers : SweepAnswers t functions answer after e
@@ -101,8 +107,7 @@ module _ (table : List ℕ) (output : ℕ) (limits : Limits) (accepted : Accepte
       pairs-long =
           ap length (sym pairs-left)
           ∙ sweep-steady table-fits .moved .long
-          ∙ length-graph table (accepted .formed .whole)
-          ∙ ap (λ (n : ℕ). 2 * n) (sym (task .count))
+          ∙ length-rows
 
       -- the marks are those lent.
       marks-left : answer .left .marks ≡ after .arrays .marks

@@ -9,14 +9,15 @@ pub use sweep_model::Counts;
 pub use sweep_model::Reply;
 ghost use Rattle.comparer.specs.Lent.{Compared, slices};
 
-// Compares output number `output` of the two sides of a table. The reply is one of:
+// Compares output number `output` of the two sides of a table on the settings that its constraint allows. The reply is one of:
 // - Refused, with the number of the first refusal that applies, 10 to 15: then no slice is changed;
-// - Equal: the output has one function on both sides;
-// - Different: it has two, and the front of the setting is the first setting on which they differ, a byte 48 or 49 for each input;
+// - Equal: the two sides of the output agree on every allowed setting;
+// - Different: they do not, and the front of the setting is the first allowed setting on which they differ, a byte 48 or 49 for each input;
 // - Undecided, with the cause: a limit was passed.
 // Where it is not refused, the reply carries the rows used, the steps taken and the rows that a product which broke off had added (0 where none
-// did), the table holds the rows and the outputs that the sweep left, and the front of the marks has a byte for each vertex. The five slices after
-// the limits are worked in: only their lengths matter.
+// did), the table holds the rows and the outputs that the sweep left, and its constraint's word stays. The front of the marks has a byte for each
+// vertex of the table and, unless that word is 1, for each of the two next vertices. The five slices after the limits are worked in: only their
+// lengths matter.
 pub fn compare(
     table: &mut [u32],
     output: u32,

@@ -9,7 +9,7 @@ use sweep::sweep;
 use sweep_model::Reply;
 use sweep_state::end::Ended;
 ghost use Prim.Native.Nat.{_*_, _<_};
-ghost use Rattle.compare_model.specs.Compare.{limitsOf, saidBy, settingLeft, tableLeft};
+ghost use Rattle.compare_model.specs.Compare.{limitsOf, saidBy, settingLeft, tableLeft, vertexRoom};
 ghost use Rattle.compare_model.specs.Passed.{Enough, LimitsWithin};
 ghost use Rattle.compare_model.specs.Said.{saidOf};
 ghost use Rattle.comparer.specs.Lent.{Slice, roomOfLists, slices};
@@ -20,7 +20,7 @@ ghost use Rattle.table.specs.Table.{inputsOf, outputsOf, verticesOf};
 ghost use lib.ListN.{length, take};
 ghost use mathlib.Core.Path.{_≡_};
 
-// The table's rows are copied to the pairs and swept there.
+// The table's rows and those of the next vertices are copied to the pairs and swept there.
 pub fn run(
     table: &[u32],
     output: u32,
@@ -35,10 +35,10 @@ pub fn run(
     requires accepted { ⌜ Accepted (now table) ⌝ }
     requires known { ⌜ output < outputsOf (now table) ⌝ }
     requires within { ⌜ LimitsWithin (limitsOf limits) ⌝ }
-    requires room { ⌜ Enough (verticesOf (now table)) (limits .rows) (roomOfLists (now pairs) (now look) (now diagrams) (now stages) (now rows)) (length (now marks)) ⌝ }
+    requires room { ⌜ Enough (vertexRoom (now table)) (limits .rows) (roomOfLists (now pairs) (now look) (now diagrams) (now stages) (now rows)) (length (now marks)) ⌝ }
     ensures { λ r. ⌜ ((setting : Slice) → Swept output limits (slices table pairs look diagrams stages rows marks setting) r) ⌝ }
 {
-    copy_in(table, pairs);
+    copy_in(table, output, pairs);
     let task = task_of(table, output, limits);
     let count = task.count as usize;
     let words = 2 * count;

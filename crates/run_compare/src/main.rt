@@ -12,10 +12,10 @@ use run_card_file::number_at;
 use run_card_file::number_count;
 ghost use Prim.Native.Nat.{_≤_};
 
-// The words of the largest table are 12,419, and its vertices 6,209: one more of each.
-const TABLE_ROOM: usize = 12420;
+// The words of the largest table are 12,420, and the vertices of its comparison 6,211: one more of each.
+const TABLE_ROOM: usize = 12421;
 
-const MARKS_ROOM: usize = 6210;
+const MARKS_ROOM: usize = 6212;
 
 const WORKING_ROOM: usize = 2 * MARKS_ROOM;
 
@@ -110,8 +110,8 @@ fn run_case(case: &[u8]) {
 
 // The lengths that a case asks for.
 fn ends_of(lengths: &[u8]) -> Ends
-    ensures words { λ r. ⌜ (r .table ≤ 12420) × (r .pairs ≤ 12420) × (r .look ≤ 12420) × (r .diagrams ≤ 12420) × (r .stages ≤ 12420) × (r .rows ≤ 131076) ⌝ }
-    ensures bytes { λ r. ⌜ (r .marks ≤ 6210) × (r .setting ≤ 65) ⌝ }
+    ensures words { λ r. ⌜ (r .table ≤ 12421) × (r .pairs ≤ 12424) × (r .look ≤ 12424) × (r .diagrams ≤ 12424) × (r .stages ≤ 12424) × (r .rows ≤ 131076) ⌝ }
+    ensures bytes { λ r. ⌜ (r .marks ≤ 6212) × (r .setting ≤ 65) ⌝ }
 {
     Ends {
         table: length_at(lengths, 0, TABLE_ROOM),

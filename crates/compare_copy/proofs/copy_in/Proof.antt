@@ -1,78 +1,76 @@
--- The first vertices' own words, then the rows after them; no loop.
--- One law joins the two.
-use Rattle.compare_copy.proofs.CopyLaws.{rows-copied}
+-- The table's rows, then those of the next vertices where there are any; no loop.
+-- One law for either case.
+use Prim.Native.Nat.{ℕ}
+use Rattle.aig.specs.declared.literal.Literal.{Literal}
+use Rattle.compare_copy.proofs.CopyLaws.{entry-own-rows, entry-written}
 use Rattle.compare_copy.proofs.copy_in.Statement.{statement}
 use Rattle.compare_copy.proofs.copy_in.Tie as tie
+use Rattle.compare_model.specs.Compare.{overFront}
 use borrow.Author.Needs.{needs}
+use mathlib.Core.List.{List}
+use mathlib.Core.Path.{_∙_, ap, sym}
 
-inputs-requires : tie.Need-inputs-requires
-inputs-requires c κs = search needs
+copy-rows-requires : tie.Need-copy-rows-requires
+copy-rows-requires c κs = search needs
 
-add-first : tie.Need-add-first
-add-first c = search needs
+constraint-requires : tie.Need-constraint-requires
+constraint-requires c κs = search needs
 
-write-own-requires : tie.Need-write-own-requires
-write-own-requires c κs = search needs
-
-made-requires : tie.Need-made-requires
-made-requires c κs = search needs
-
-cast-made : tie.Need-cast-made
-cast-made c = search needs
-
-mul-end : tie.Need-mul-end
-mul-end c = search needs
-
-add-end : tie.Need-add-end
-add-end c = search needs
-
-cast-at : tie.Need-cast-at
-cast-at c = search needs
+vertices-requires : tie.Need-vertices-requires
+vertices-requires c κs = search needs
 
 mul-at : tie.Need-mul-at
 mul-at c = search needs
 
-sub-copy : tie.Need-sub-copy
-sub-copy c = search needs
+write-next-requires : tie.Need-write-next-requires
+write-next-requires c κs = search needs
 
-part-copy-start : tie.Need-part-copy-start
-part-copy-start c = search needs
+add-write-next : tie.Need-add-write-next
+add-write-next c = search needs
 
-part-copy-end : tie.Need-part-copy-end
-part-copy-end c = search needs
-
-copy-requires : tie.Need-copy-requires
-copy-requires c κs = search needs
+write-next-requires-2 : tie.Need-write-next-requires-2
+write-next-requires-2 c κs = search needs
 
 same-length : tie.Need-same-length
 same-length c = search needs
 
 returns : tie.Need-returns
 returns c =
-    let copy = c .before .before in
-    let made = copy .before .before .before .made in
-    let own = copy .before .before .before .before .before .before in
-    let inputs = own .before .before .inputs in
-    let start = own .before .before .before .before .before in
-    rows-copied (start .args .table .now) (start .args .pairs .now) (own .write-own .last .0) (copy .copy .last .1 .0) (search needs)
-    (rw (inputs .ensures) at (own .write-own .ensures)) (rw (inputs .ensures, made .ensures) at (copy .copy .ensures .list))
+    let second = c .before .before in
+    let first = second .before .before .before .before in
+    let vertices = first .before .before .vertices in
+    let test = first .before .before .before in
+    let constraint = ap (λ (r : Literal). r .0) (test .before .before .constraint .ensures) in
+    let rows = test .before .before .before .before .before in
+    let start = rows .before .before .before .before in
+    let a = start .args in
+    entry-written (a .table .now) (a .output) (λ e. test .if1 .taken (constraint ∙ e)) (start .pre .0 .whole) (a .pairs .now) (rows .copy-rows .last .1 .0)
+    (first .write-next .last .1 .1 .1 .0) (second .write-next2 .last .1 .1 .1 .0) (start .pre .1 .1) (rows .copy-rows .ensures)
+    (rw (vertices .ensures) at (first .write-next .ensures)) (rw (vertices .ensures) at (second .write-next2 .ensures))
+
+same-length-2 : tie.Need-same-length-2
+same-length-2 c = search needs
+
+returns-2 : tie.Need-returns-2
+returns-2 c =
+    let constraint = ap (λ (r : Literal). r .0) (c .before .before .constraint .ensures) in
+    let rows = c .before .before .before .before .before in
+    let a = rows .before .before .before .before .args in
+    rows .copy-rows .ensures
+    ∙ ap (λ (ws : List ℕ). overFront ws (a .pairs .now)) (sym (entry-own-rows (a .table .now) (a .output) (sym constraint ∙ c .if1 .left)))
 
 pub copy-in-spec : {M : Type 1} → statement M
 copy-in-spec =
     tie.close
     (tie.spec
-    inputs-requires
-    add-first
-    write-own-requires
-    made-requires
-    cast-made
-    mul-end
-    add-end
-    cast-at
+    copy-rows-requires
+    constraint-requires
+    vertices-requires
     mul-at
-    sub-copy
-    part-copy-start
-    part-copy-end
-    copy-requires
+    write-next-requires
+    add-write-next
+    write-next-requires-2
     same-length
-    returns)
+    returns
+    same-length-2
+    returns-2)

@@ -26,6 +26,9 @@ returns-2 c =
 vertices-requires : tie.Need-vertices-requires
 vertices-requires c κs = search needs
 
+add-is-short : tie.Need-add-is-short
+add-is-short c = search needs
+
 is-short-requires : tie.Need-is-short-requires
 is-short-requires c κs = search needs
 
@@ -70,6 +73,7 @@ call-refusal-spec =
     is-beyond-requires
     returns-2
     vertices-requires
+    add-is-short
     is-short-requires
     returns-3
     inputs-requires

@@ -1,7 +1,7 @@
 -- What the parts of a comparison that is not refused give each other: the sweep's task, how it ended, and what follows it.
 use Prim.Native.Nat.{_*_, _+_, _≤_, ℕ}
 use Rattle.bdd.specs.code.Store.{Store}
-use Rattle.compare_model.specs.Compare.{Given, answerTo, limitsOf, maxRows, maxSteps, overFront, problemOf}
+use Rattle.compare_model.specs.Compare.{Given, answerTo, limitsOf, maxRows, maxSteps, nextRows, overFront, problemOf}
 use Rattle.compare_model.specs.declared.Limits.{Limits as Asked}
 use Rattle.comparer.specs.Lent.{Slices, given}
 use Rattle.sweep_state.specs.code.Ending.{Refers, verdictOf}
@@ -9,16 +9,16 @@ use Rattle.sweep_state.specs.code.Words.{posed}
 use Rattle.sweep_state.specs.declared.end.Ended.{Ended}
 use Rattle.sweep_state.specs.declared.task.Task.{Task}
 use Rattle.table.specs.Accepted.{Accepted}
-use Rattle.table.specs.Table.{functionsOf, graphOf, inputsOf, verticesOf}
+use Rattle.table.specs.Table.{inputsOf, verticesOf}
 use denote.Triple.Both.{Both}
 use lib.ListN.{length, take}
 use mathlib.Core.List.{List}
 use mathlib.Core.Path.{_≡_}
 
--- A task is that of a table's output: with the functions of the table's vertices it poses the comparison's problem.
+-- A task is that of a table's output: with the functions of the comparison's problem it poses it, and its vertices are the table's and the next ones.
 pub record Posed (table : List ℕ) (output : ℕ) (limits : Asked) (t : Task) : Type 0 where
-  pub problem : posed t (functionsOf (graphOf table)) ≡ problemOf table output (limitsOf limits)
-  pub count : t .count ≡ verticesOf table
+  pub problem : posed t (problemOf table output (limitsOf limits) .functions) ≡ problemOf table output (limitsOf limits)
+  pub count : t .count ≡ verticesOf table + length (nextRows table output)
   pub inputs : t .inputs ≡ inputsOf table
   pub size : t .size ≡ limits .size
   pub rows : t .rows ≡ limits .rows
@@ -27,7 +27,7 @@ pub record Posed (table : List ℕ) (output : ℕ) (limits : Asked) (t : Task) :
 -- The sweep has ended: the model's answer, by what the slices hold then.
 pub record SweepRan (g : Given) (pairs rows marks : List ℕ) (e : Ended) : Type 0 where
   pub verdict : answerTo g .verdict ≡ verdictOf rows (inputsOf (g .table)) (e .end)
-  pub rows-left : answerTo g .left .rows ≡ take (2 * verticesOf (g .table)) pairs
+  pub rows-left : answerTo g .left .rows ≡ take (2 * (verticesOf (g .table) + length (nextRows (g .table) (g .output)))) pairs
   pub long : 2 * verticesOf (g .table) ≤ length pairs
   pub marks-left : overFront (answerTo g .left .marks) (g .marks) ≡ marks
   pub rows-used : length (answerTo g .left .book .store) ≡ e .used
