@@ -18,12 +18,12 @@ fn main() {
 fn print_report(left: &[u8], right: &[u8]) {
     let mut out = [0u8; report_model::REPORT_ROOM];
     let mut table = [0u32; load::MAX_TABLE];
-    let mut pairs = [0u32; load::WORKING_ROOM];
-    let mut look = [0u32; load::WORKING_ROOM];
-    let mut diagrams = [0u32; load::WORKING_ROOM];
-    let mut stages = [0u32; load::WORKING_ROOM];
+    let mut pairs = [0u32; report_model::COMPARE_ROOM];
+    let mut look = [0u32; report_model::COMPARE_ROOM];
+    let mut diagrams = [0u32; report_model::COMPARE_ROOM];
+    let mut stages = [0u32; report_model::COMPARE_ROOM];
     let mut rows = [0u32; report_model::ROWS_ROOM];
-    let mut marks = [0u8; load::MAX_VERTICES];
+    let mut marks = [0u8; report_model::COMPARE_VERTICES];
     let mut setting = [0u8; SETTING_ROOM];
     let end = report_pair::report_pair(
         left,

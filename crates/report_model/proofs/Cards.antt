@@ -1,11 +1,11 @@
 -- The reports, computed.
 use Rattle.aig.specs.Fold.{foldOf}
 use Rattle.aig.specs.Lookup.{firstVertex, ownWords}
-use Rattle.compare_model.specs.Compare.{answerTo, answered, beyond?, compared, graphWords, outputsLeft, outside?, problemOf, refusalOf, saidBy, settingBytes, settingLeft, shortSlice?, tableLeft, turnedBack}
+use Rattle.compare_model.specs.Compare.{answerTo, answered, beyond?, compared, entryRows, graphWords, lookedAt, nextRows, outputsLeft, outside?, problemOf, refusalOf, rowWords, saidBy, settingBytes, settingLeft, shortSlice?, tableLeft, turnedBack}
 use Rattle.load_model.specs.Build.{askAnd, askGate, askGates, askXor, buildFile, buildPair, emptyBuild, foldedOrNot, foundOrMade, literalsFrom}
 use Rattle.load_model.specs.Load.{countsDiffer?, loadResult, readResult, readSecond, tableAfter, tableOf, tableWords, tallyOf}
 use Rattle.load_model.specs.Load.{shortSlice? as shortLoad?}
-use Rattle.netlist_model.specs.Check.{below?, checkFile, checkFrom, due?, dueAfter, finish, formed?, gatesIn, header?, known?, limited?, more?, namesIn, outputsIn, readBy, readNetlist, twice?}
+use Rattle.netlist_model.specs.Check.{below?, checkFile, checkFrom, constraintsIn, due?, dueAfter, finish, formed?, gatesIn, header?, known?, limited?, more?, namesIn, outputsIn, readBy, readNetlist, twice?}
 use Rattle.netlist_model.specs.Meaning.{andCount}
 use Rattle.netlist_model.specs.Names.{firstLacked, nameCount, placeOf}
 use Rattle.netlist_model.specs.Pairing.{inputFor, paired, referenceFor}
@@ -31,10 +31,10 @@ use Rattle.truth.specs.Truth.{conj, constant?, constantly, input, invert, same?
 use mathlib.Core.Path.{refl}
 
 pub cards : Cards
-unfolding askXor checkFile checkFrom below? due? dueAfter finish formed? gatesIn header? known? limited? more? nameCount namesIn outputsIn readBy readNetlist twice?
+unfolding askXor checkFile checkFrom constraintsIn below? due? dueAfter finish formed? gatesIn header? known? limited? more? nameCount namesIn outputsIn readBy readNetlist twice?
     digitsFrom numeralOf fieldsRecord fileLines lineOf name? operationOf partLines recordOf unended foldOf firstVertex ownWords askAnd askGate askGates
     buildFile buildPair emptyBuild foldedOrNot foundOrMade literalsFrom countsDiffer? firstLacked inputFor loadResult paired placeOf readResult readSecond referenceFor shortLoad? tallyOf andCount firstRefusal
-    tableAfter tableOf tableWords answerTo answered beyond? compared graphWords outputsLeft outside? problemOf refusalOf settingBytes settingLeft
+    tableAfter tableOf tableWords answerTo answered beyond? compared entryRows graphWords lookedAt nextRows outputsLeft outside? problemOf refusalOf rowWords settingBytes settingLeft
     shortSlice? tableLeft turnedBack outputWords pairs rowsOf sideOutputs malformed? beyondLimits? outOfOrder? downward? allBelow? rowBelow? graphOf
     functionsOf firstFunctions inputsFrom vertexValues conj constant? constantly input invert same? sweep resultOf conclude
     giveRow go goFor meet multiply openAt pickFrom ready? scanFrom smaller swept topPart turnsLeft turnsOf twinFrom visit dropVertex giveInputs

@@ -1,12 +1,15 @@
 -- The report by cases: slices that are too short, a refused load, an accepted one.
-use Prim.Native.Nat.{_*_, _≤_, ℕ}
+use Prim.Native.Nat.{_≤_, ℕ}
+use Rattle.compare_model.proofs.RefusalLaws.{slices-enough}
+use Rattle.compare_model.specs.Compare.{CompareRoom, shortSlice?}
+use Rattle.compare_model.specs.Passed.{Enough}
 use Rattle.load_model.proofs.LoadLaws.{load-only, load-table}
 use Rattle.load_model.proofs.PairedLaws.{loadable-paired}
 use Rattle.load_model.proofs.TableLaws.{table-accepted}
-use Rattle.load_model.specs.Load.{Answer, LoadRoom, accepted, loadResult, maxVertices, tableLoaded}
+use Rattle.load_model.specs.Load.{Answer, LoadRoom, accepted, loadResult, tableLoaded}
 use Rattle.load_model.specs.declared.Tally.{Tally}
 use Rattle.netlist_model.specs.Pairing.{paired}
-use Rattle.report_model.specs.Report.{Lent, firstOf, loadRoom, reportOf, reportRoom, reported, rowLimit, short?, shortRoom?, untouched, works?}
+use Rattle.report_model.specs.Report.{Lent, compareVertices, firstOf, loadRoom, reportOf, reportRoom, reported, rowLimit, short?, shortRoom?, untouched, works?}
 use Rattle.table.specs.Accepted.{Accepted}
 use Rattle.table.specs.Limits.{maxInputs}
 use Rattle.truth.proofs.Booleans.{neither}
@@ -17,22 +20,19 @@ use mathlib.Core.List.{List}
 use mathlib.Core.Path.{_≡_, refl}
 
 -- The slices are long enough.
-pub record Long (o r m s : ℕ) : Type 0 where
+pub record Long (o : ℕ) (r : CompareRoom) (m s : ℕ) : Type 0 where
   pub out : reportRoom ≤ o
-  pub rows : 4 * rowLimit ≤ r
-  pub marks : maxVertices ≤ m
+  pub room : Enough compareVertices rowLimit r m
   pub setting : maxInputs ≤ s
 
-pub long-enough : (out rows marks setting : ℕ) → shortRoom? out rows marks setting ≡ false → Long out rows marks setting
+pub long-enough : (out : ℕ) (room : CompareRoom) (marks setting : ℕ) → shortRoom? out room marks setting ≡ false → Long out room marks setting
 unfolding shortRoom?
-long-enough out rows marks setting h =
-    let p = neither (ltb out reportRoom || ltb rows (4 * rowLimit) || ltb marks maxVertices) (ltb setting maxInputs) h in
-    let q = neither (ltb out reportRoom || ltb rows (4 * rowLimit)) (ltb marks maxVertices) (p .0) in
-    let r = neither (ltb out reportRoom) (ltb rows (4 * rowLimit)) (q .0) in
+long-enough out room marks setting h =
+    let p = neither (ltb out reportRoom || shortSlice? compareVertices rowLimit room marks) (ltb setting maxInputs) h in
+    let q = neither (ltb out reportRoom) (shortSlice? compareVertices rowLimit room marks) (p .0) in
     record {
-      out = ltb-false out reportRoom (r .0);
-      rows = ltb-false rows (4 * rowLimit) (r .1);
-      marks = ltb-false marks maxVertices (q .1);
+      out = ltb-false out reportRoom (q .0);
+      room = slices-enough compareVertices rowLimit room marks (q .1);
       setting = ltb-false setting maxInputs (p .1);
     }
 

@@ -1,17 +1,17 @@
 -- Where there is room for every pair of files, none of the program's comparisons is refused: each leaves the lengths of its slices.
-use Prim.Native.Nat.{_*_, _<_, _≤_, ℕ}
+use Prim.Native.Nat.{_<_, _≤_, ℕ}
 use Rattle.compare_model.proofs.Demand1.{passes}
-use Rattle.compare_model.proofs.GraphLaws.{count-vertices}
+use Rattle.compare_model.proofs.GraphLaws.{count-vertices, next-few}
 use Rattle.compare_model.proofs.RefusalLaws.{compared-answered, passed}
 use Rattle.compare_model.proofs.Since.{given-fits, given-steady, since-compared, since-loaded}
-use Rattle.compare_model.specs.Compare.{Given, answerTo, answered, overFront, problemOf, refusalOf, settingBytes, settingLeft}
-use Rattle.load_model.specs.Load.{maxVertices}
-use Rattle.report_model.specs.Report.{next, programLimits, rowLimit}
+use Rattle.compare_model.specs.Compare.{Given, answerTo, answered, overFront, problemOf, refusalOf, settingBytes, settingLeft, vertexRoom}
+use Rattle.compare_model.specs.Passed.{Enough}
+use Rattle.report_model.specs.Report.{compareVertices, next, programLimits, rowLimit}
 use Rattle.sweep_model.proofs.Right.{different-right}
 use Rattle.sweep_model.specs.Sweep.{Verdict, different, equal, undecided}
 use Rattle.table.specs.Accepted.{Accepted}
 use Rattle.table.specs.Limits.{maxInputs}
-use Rattle.table.specs.Table.{outputsOf, verticesOf}
+use Rattle.table.specs.Table.{outputsOf}
 use lib.ListN.{length, length-append, length-drop, length-map}
 use mathlib.Core.List.{List}
 use mathlib.Core.Path.{_≡_, refl}
@@ -21,12 +21,7 @@ use native.Mathlib.Omega.{arith}
 pub record Roomy (g : Given) : Type 0 where
   pub table : Accepted (g .table)
   pub limits : g .limits ≡ programLimits
-  pub pairs : 2 * maxVertices ≤ g .room .pairs
-  pub look : 2 * maxVertices ≤ g .room .look
-  pub diagrams : 2 * maxVertices ≤ g .room .diagrams
-  pub stages : 2 * maxVertices ≤ g .room .stages
-  pub rows : 4 * rowLimit ≤ g .room .rows
-  pub marks : maxVertices ≤ length (g .marks)
+  pub room : Enough compareVertices rowLimit (g .room) (length (g .marks))
   pub setting : maxInputs ≤ length (g .setting)
 
 -- The front of a list replaced by no more than it has leaves its length.
@@ -39,7 +34,13 @@ module _ (g : Given) (h : refusalOf g ≡ 0) where
   unfolding answered
   marks-kept =
       over-length (answerTo g .left .marks) (g .marks)
-      (omega (arith, given-steady g h .marked, count-vertices (g .table) (g .output) (g .limits), passed g h .room .marked))
+      (omega (
+        arith,
+        given-steady g h .marked,
+        count-vertices (g .table) (g .output) (g .limits),
+        next-few (g .table) (g .output) (g .limits),
+        passed g h .room .marked,
+      ))
 
   setting-kept : length (answered g (answerTo g) .setting) ≡ length (g .setting)
   unfolding answerTo answered problemOf settingLeft settingBytes
@@ -54,7 +55,7 @@ module _ (g : Given) (h : refusalOf g ≡ 0) where
       go (undecided c) e = refl
 
 module _ {g : Given} (r : Roomy g) (inside : g .output < outputsOf (g .table)) where
-  vertices : verticesOf (g .table) ≤ maxVertices
+  vertices : vertexRoom (g .table) ≤ compareVertices
   vertices = omega (arith, r .table .formed .inputs, r .table .formed .made)
 
   rows-limit : g .limits .rows ≡ rowLimit
@@ -76,12 +77,12 @@ module _ {g : Given} (r : Roomy g) (inside : g .output < outputsOf (g .table)) w
             });
         room =
             record {
-              pairs = omega (arith, vertices, r .pairs);
-              look = omega (arith, vertices, r .look);
-              diagrams = omega (arith, vertices, r .diagrams);
-              stages = omega (arith, vertices, r .stages);
-              diagram-rows = omega (arith, rows-limit, r .rows);
-              marked = omega (arith, vertices, r .marks);
+              pairs = omega (arith, vertices, r .room .pairs);
+              look = omega (arith, vertices, r .room .look);
+              diagrams = omega (arith, vertices, r .room .diagrams);
+              stages = omega (arith, vertices, r .room .stages);
+              diagram-rows = omega (arith, rows-limit, r .room .diagram-rows);
+              marked = omega (arith, vertices, r .room .marked);
             };
         setting = omega (arith, r .table .formed .inputs, r .setting);
       })
@@ -93,12 +94,15 @@ module _ {g : Given} (r : Roomy g) (inside : g .output < outputsOf (g .table)) w
       record {
         table = since-compared g (since-loaded (r .table)) .accepted;
         limits = r .limits;
-        pairs = r .pairs;
-        look = r .look;
-        diagrams = r .diagrams;
-        stages = r .stages;
-        rows = r .rows;
-        marks = rw (compared-answered g never-refused) (omega (arith, marks-kept g never-refused, r .marks));
+        room =
+            record {
+              pairs = r .room .pairs;
+              look = r .room .look;
+              diagrams = r .room .diagrams;
+              stages = r .room .stages;
+              diagram-rows = r .room .diagram-rows;
+              marked = rw (compared-answered g never-refused) (omega (arith, marks-kept g never-refused, r .room .marked));
+            };
         setting = rw (compared-answered g never-refused) (omega (arith, setting-kept g never-refused, r .setting));
       }
 

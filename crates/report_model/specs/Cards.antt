@@ -1,11 +1,11 @@
 -- Reports computed from the bytes of the files.
 use Prim.Native.Nat.{_*_, ℕ}
 use Rattle.load_model.specs.Cards.{andFile, namedAnd, turnedAnd, withOneGate}
-use Rattle.load_model.specs.Load.{maxTable, maxVertices}
+use Rattle.load_model.specs.Load.{maxTable}
 use Rattle.report_format.specs.Report.{headLine, refusedLine, replyLine}
 use Rattle.report_format.specs.declared.Vertex.the-variants.{None}
 use Rattle.report_format.specs.declared.Word.the-variants.{Different, Equal}
-use Rattle.report_model.specs.Report.{Lent, reportOf, reportRoom, rowLimit}
+use Rattle.report_model.specs.Report.{Lent, compareVertices, reportOf, reportRoom, rowLimit}
 use Rattle.table.specs.Limits.{maxInputs}
 use lib.ListN.{replicate, take}
 use mathlib.Core.List.{List, [], _++_, _∷_}
@@ -18,8 +18,14 @@ enough =
       out = replicate reportRoom 0;
       table = replicate maxTable 0;
       room =
-          record { pairs = 2 * maxVertices; look = 2 * maxVertices; diagrams = 2 * maxVertices; stages = 2 * maxVertices; rows = 4 * rowLimit };
-      marks = replicate maxVertices 0;
+          record {
+            pairs = 2 * compareVertices;
+            look = 2 * compareVertices;
+            diagrams = 2 * compareVertices;
+            stages = 2 * compareVertices;
+            rows = 4 * rowLimit;
+          };
+      marks = replicate compareVertices 0;
       setting = replicate maxInputs 0;
     }
 

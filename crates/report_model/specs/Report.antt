@@ -1,6 +1,6 @@
 -- The report that the program prints of two files, and what its call leaves in the slices that it is lent.
 use Prim.Native.Nat.{_*_, _+_, suc, zero, ℕ}
-use Rattle.compare_model.specs.Compare.{CompareRoom, Given, compared, overFront}
+use Rattle.compare_model.specs.Compare.{CompareRoom, Given, compared, overFront, shortSlice?}
 use Rattle.load_model.specs.Load.{Answer, LoadRoom, accepted, loadResult, maxVertices, refused, tableLoaded}
 use Rattle.reply_line.specs.Line.{lineFor}
 use Rattle.report_format.specs.Report.{LINE-ROOM, headLine, refusedLine}
@@ -117,12 +117,16 @@ loadRoom lent =
       outputs = lent .room .stages;
     }
 
--- The slice for the report, the rows, the marks or the setting is too short for some pair of files.
-unfoldable pub shortRoom? : ℕ → ℕ → ℕ → ℕ → Bool
-shortRoom? out rows marks setting = ltb out reportRoom || ltb rows (4 * rowLimit) || ltb marks maxVertices || ltb setting maxInputs
+-- "14, in comparisons, for two vertices more": the vertices that the slices of a comparison must have room for, whatever the pair. (RULES 2.3, 8.2)
+abbrev pub compareVertices : ℕ
+compareVertices = maxVertices + 2
+
+-- The slice for the report, a slice to work in, the marks or the setting is too short for some pair of files.
+unfoldable pub shortRoom? : ℕ → CompareRoom → ℕ → ℕ → Bool
+shortRoom? out room marks setting = ltb out reportRoom || shortSlice? compareVertices rowLimit room marks || ltb setting maxInputs
 
 abbrev pub short? : Lent → Bool
-short? lent = shortRoom? (length (lent .out)) (lent .room .rows) (length (lent .marks)) (length (lent .setting))
+short? lent = shortRoom? (length (lent .out)) (lent .room) (length (lent .marks)) (length (lent .setting))
 
 -- Then nothing is written.
 abbrev pub untouched : Lent → Report

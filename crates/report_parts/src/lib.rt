@@ -1,29 +1,29 @@
 // Parts of the report: whether its slices are too short, and a line in its place.
+use compare_refusal::Lengths;
+use report_model::COMPARE_VERTICES;
 use report_model::REPORT_ROOM;
-use report_model::ROWS_ROOM;
+use report_model::ROW_LIMIT;
 use sweep_model::Reply;
 ghost use Prim.Native.Nat.{_+_, _≤_};
 ghost use Rattle.compare_model.specs.Said.{saidOf};
+ghost use Rattle.compare_refusal.specs.code.Room.{roomOf};
 ghost use Rattle.reply_line.specs.Line.{lineFor};
 ghost use Rattle.report_format.specs.Report.{LINE-ROOM, StoredWithin};
 ghost use Rattle.report_model.specs.Report.{shortRoom?};
 ghost use lib.ListN.{length};
 ghost use mathlib.Core.Path.{_≡_};
 
-// Whether slices of these lengths are too short for some pair of files.
-pub fn is_short(out: usize, rows: usize, marks: usize, setting: usize) -> bool
-    ensures { λ r. ⌜ r ≡ shortRoom? out rows marks setting ⌝ }
+// Whether slices of these lengths are too short for some pair of files: that of the report, and those lent beside the table.
+pub fn is_short(out: usize, lengths: Lengths) -> bool
+    ensures { λ r. ⌜ r ≡ shortRoom? out (roomOf lengths) (lengths .marks) (lengths .setting) ⌝ }
 {
     if out < REPORT_ROOM {
         return true;
     }
-    if rows < ROWS_ROOM {
+    if compare_refusal::is_short(COMPARE_VERTICES, ROW_LIMIT, lengths) {
         return true;
     }
-    if marks < load::MAX_VERTICES {
-        return true;
-    }
-    setting < table::MAX_INPUTS as usize
+    lengths.setting < table::MAX_INPUTS as usize
 }
 
 // Stores the line of a reply in `out` from `at` on, and gives back the place after it.

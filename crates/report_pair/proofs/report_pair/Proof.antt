@@ -53,7 +53,7 @@ report-table-requires c κs =
     let a = test .before .before .before .before .before .before .before .before .before .before .before .before .before .args in
     let l : Lent = lent (a .out .now) (holding (a .table .now) (a .pairs .now) (a .look .now) (a .diagrams .now) (a .stages .now) (a .rows .now) (a .marks .now) (a .setting .now)) in
     let long : short? l ≡ false = sym (test .before .is-short .ensures) ∙ test .if1 .left in
-    let bounds = long-enough (length (a .out .now)) (length (a .rows .now)) (length (a .marks .now)) (length (a .setting .now)) long in
+    let bounds = long-enough (length (a .out .now)) (l .room) (length (a .marks .now)) (length (a .setting .now)) long in
     (table-ready (a .left .now) (a .right .now) (loadRoom l) (answerOf (load .result)) _ _ (load .ensures .0) (ap answerOf (matched .loaded2 .given .1)) (load .last .1 .1 .0) (a .table .now) (load .ensures .1 .0) (bounds .setting), bounds .out)
 
 same-length : tie.Need-same-length
@@ -85,7 +85,7 @@ returns-2 c =
     let a = test .before .before .before .before .before .before .before .before .before .before .before .before .before .args in
     let l : Lent = lent (a .out .now) (holding (a .table .now) (a .pairs .now) (a .look .now) (a .diagrams .now) (a .stages .now) (a .rows .now) (a .marks .now) (a .setting .now)) in
     let long : short? l ≡ false = sym (test .before .is-short .ensures) ∙ test .if1 .left in
-    let bounds = long-enough (length (a .out .now)) (length (a .rows .now)) (length (a .marks .now)) (length (a .setting .now)) long in (
+    let bounds = long-enough (length (a .out .now)) (l .room) (length (a .marks .now)) (length (a .setting .now)) long in (
       record {
         result =
             refused-report (a .left .now) (a .right .now) l long (answerOf (load .result)) (load .ensures .0) (load .last .1 .1 .0) (load .ensures .1 .0) _ _ _ told (omega (arith, bounds .out)) _ _
@@ -148,7 +148,7 @@ returns-3 c =
     let a = test .before .before .before .before .before .before .before .before .before .before .before .before .before .args in
     let l : Lent = lent (a .out .now) (holding (a .table .now) (a .pairs .now) (a .look .now) (a .diagrams .now) (a .stages .now) (a .rows .now) (a .marks .now) (a .setting .now)) in
     let long : short? l ≡ false = sym (test .before .is-short .ensures) ∙ test .if1 .left in
-    let bounds = long-enough (length (a .out .now)) (length (a .rows .now)) (length (a .marks .now)) (length (a .setting .now)) long in (
+    let bounds = long-enough (length (a .out .now)) (l .room) (length (a .marks .now)) (length (a .setting .now)) long in (
       record {
         result =
             accepted-report (a .left .now) (a .right .now) l long (answerOf (load .result)) (load .ensures .0) (load .last .1 .1 .0) (load .ensures .1 .0) _ _ told _ _ _ (table .result)
