@@ -4,13 +4,13 @@ use Rattle.compare_model.proofs.ClaimLaws.{marks-kept, reply-says}
 use Rattle.compare_model.proofs.Since.{Since, since-compared, since-loaded, since-value}
 use Rattle.compare_model.specs.Claims.{MarksKept, ReplySays, problemBy}
 use Rattle.compare_model.specs.Compare.{compared, refusalOf}
-use Rattle.demands.proofs.FileLaws.{table-inputs, table-outputs, table-value}
+use Rattle.demands.proofs.FileLaws.{table-outputs, table-value}
 use Rattle.demands.proofs.ReplyLaws.{reply-kept}
 use Rattle.demands.specs.Claims.{ReplyKept}
 use Rattle.demands.specs.Demand3.{Call, Demand3, Each, Holds, Ran}
 use Rattle.load_model.proofs.LoadLaws.{load-only}
 use Rattle.load_model.proofs.PairedLaws.{loadable-paired}
-use Rattle.load_model.proofs.TableLaws.{table-accepted}
+use Rattle.load_model.proofs.TableLaws.{table-accepted, table-inputs}
 use Rattle.load_model.specs.Load.{LoadRoom, accepted, loadResult, tableOf}
 use Rattle.load_model.specs.Loadable.{Loadable}
 use Rattle.load_model.specs.declared.Tally.{Tally}
@@ -55,7 +55,9 @@ module _ {d e : Netlist} (h : Loadable d e) (old : List ℕ) where
       let s = since-ran since-first ran in
       record {
         values = λ side k t l m.
-            since-value s side k t (omega (arith, table-outputs d e h old)) (omega (arith, table-inputs d e h old)) ∙ table-value d e h old side k t l m;
+            since-value s side k t (omega (arith, table-outputs d e h old)) (omega (arith, table-inputs d (paired d e) old)) ∙ table-value d e h old side k t l m;
+        vertices = s .functions;
+        constraint = s .constraint;
         replies =
             each-call (λ c. ReplyKept d e (tableOf d (paired d e) old) (c .given) (c .left) (c .left .reply)) (λ c l here. rw l (reply-kept h old (c .given) here)) since-first ran;
         marks =

@@ -21,5 +21,5 @@ from-files left right old loaded last room result edition tally calls given tabl
       first-read = h .first-read;
       second-read = h .second-read;
       holds = rw t (demand3 left right room edition tally (h .first) (h .second) old last calls a (h .first-read) (h .second-read) r);
-      decides = complete left right room edition tally (h .first) (h .second) old last calls a (h .first-read) (h .second-read) r;
+      decides = rw t (complete left right room edition tally (h .first) (h .second) old last calls a (h .first-read) (h .second-read) r);
     }

@@ -4,7 +4,7 @@ use Rattle.compare_model.proofs.Since.{Since, since-compared}
 use Rattle.compare_model.specs.Compare.{Given, compared, refusalOf, settingBytes}
 use Rattle.compare_model.specs.Said.{Said}
 use Rattle.demands.proofs.Demand3.{demand3, loaded-files, since-first}
-use Rattle.demands.proofs.FileLaws.{table-inputs, table-outputs}
+use Rattle.demands.proofs.FileLaws.{table-outputs}
 use Rattle.demands.proofs.ReplyLaws.{reply-kept}
 use Rattle.demands.specs.Claims.{ReplyKept}
 use Rattle.demands.specs.Demand3.{Call, Each, Ran}
@@ -12,7 +12,7 @@ use Rattle.demands.specs.Example.{callOf}
 use Rattle.demands.specs.Printed.{Numbered, PrintedRefused, PrintedTrue, TrueLine, callLine, callLines, says-different, says-equal, says-undecided}
 use Rattle.load_model.proofs.LoadLaws.{load-only}
 use Rattle.load_model.proofs.PairedLaws.{loadable-paired}
-use Rattle.load_model.proofs.TableLaws.{table-accepted}
+use Rattle.load_model.proofs.TableLaws.{table-accepted, table-inputs}
 use Rattle.load_model.specs.Load.{accepted, loadResult, readSecond, refused, tableAfter, tableLoaded, tableOf}
 use Rattle.load_model.specs.Loadable.{Loadable}
 use Rattle.netlist_model.specs.Netlist.{Netlist}
@@ -75,7 +75,7 @@ module _ {d e : Netlist} (h : Loadable d e) (old : List ℕ) where
       go (Said.different rows steps added) k =
           let x = k .1 in
           let digits : length (settingBytes (x .setting)) ≡ inputsOf (g .table) =
-          length-map (x .setting) _ ∙ x .digits ∙ sym (table-inputs d e h old) ∙ sym (s .inputs) in
+          length-map (x .setting) _ ∙ x .digits ∙ sym (table-inputs d (paired d e) old) ∙ sym (s .inputs) in
           let front : settingBytes (x .setting) ≡ take (inputsOf (g .table)) (compared g .setting) =
           sym (rw (x .written) (take-at (settingBytes (x .setting)) _ (inputsOf (g .table)) digits)) in
           subst (λ (bytes : List ℕ). TrueLine d e (g .output) (replyLine (d .edition) (g .output) word.Different bytes None rows steps)) front (says-different rows steps x)
@@ -132,19 +132,8 @@ printed-true left right lent edition tally d e long a l r =
 
     roomy : Roomy first
     roomy =
-        let enough = load-only left right (loadRoom lent) edition tally a .enough in
-        let lengths = long-enough (length (lent .out)) (lent .room .rows) (length (lent .marks)) (length (lent .setting)) long in
-        record {
-          table = table-accepted d (paired d e) (loadable-paired h) (lent .table);
-          limits = refl;
-          pairs = enough .pairs;
-          look = enough .look;
-          diagrams = enough .literals;
-          stages = enough .outputs;
-          rows = lengths .rows;
-          marks = lengths .marks;
-          setting = lengths .setting;
-        }
+        let lengths = long-enough (length (lent .out)) (lent .room) (length (lent .marks)) (length (lent .setting)) long in
+        record { table = table-accepted d (paired d e) (loadable-paired h) (lent .table); limits = refl; room = lengths .room; setting = lengths .setting }
 
 -- That of a refused load is its line.
 pub printed-refused : PrintedRefused

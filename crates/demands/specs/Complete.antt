@@ -14,13 +14,13 @@ use Rattle.sweep_model.specs.State.{Limits}
 use mathlib.Core.List.{List}
 use mathlib.Core.Path.{_≡_}
 
--- "demand 3's bound, on pairs whose limits suffice": none of the three bounds that an Undecided needs is passed. (RULES 12.3, 12.7)
-pub record Suffice (d e : Netlist) (limits : Limits) : Type 0 where
-  pub small : TooLarge d e (limits .size) → ⊥
-  pub few-parts : TooManyParts d e (limits .rows) → ⊥
-  pub few-steps : TooManySteps d e (limits .steps) → ⊥
+-- "demand 3's bound, on pairs whose limits suffice": for output k none of the three bounds that an Undecided needs is passed. (RULES 12.3, 12.7)
+pub record Suffice (loaded : List ℕ) (d e : Netlist) (k : ℕ) (limits : Limits) : Type 0 where
+  pub small : TooLarge loaded d e k (limits .size) → ⊥
+  pub few-parts : TooManyParts loaded d e k (limits .rows) → ⊥
+  pub few-steps : TooManySteps loaded d e k (limits .steps) → ⊥
 
--- The reply is Equal where output k of the two files agrees on every setting, and Different where it does not. (RULES 12.2)
+-- The reply is Equal where output k of the two files agrees on every allowed setting, and Different where it does not. (RULES 12.2)
 pub data Decided (d e : Netlist) (k : ℕ) : Said → Type 0 where
   is-equal : {rows steps added : ℕ} → Agree d e k → Decided d e k (Said.equal rows steps added)
   is-different : {rows steps added : ℕ} → (Agree d e k → ⊥) → Decided d e k (Said.different rows steps added)
@@ -30,4 +30,6 @@ Complete =
     (left right : List ℕ) (room : LoadRoom) (edition : ℕ) (tally : Tally) (d e : Netlist) (old last : List ℕ) (calls : List Call)
     → loadResult left right room ≡ accepted edition tally → readNetlist First left ≡ read d → readNetlist (Second (d .edition)) right ≡ read e
     → Ran (tableOf d (paired d e) old) calls last
-    → Each (λ c. refusalOf (c .given) ≡ 0 → Suffice d e (c .given .limits) → Decided d e (c .given .output) (c .left .reply)) calls
+    → Each
+    (λ c. refusalOf (c .given) ≡ 0 → Suffice (tableOf d (paired d e) old) d e (c .given .output) (c .given .limits) → Decided d e (c .given .output) (c .left .reply))
+    calls

@@ -9,7 +9,7 @@ use Rattle.netlist_model.specs.Check.{read, readNetlist}
 use Rattle.netlist_model.specs.Netlist.{Netlist}
 use Rattle.netlist_model.specs.Pairing.{paired}
 use Rattle.netlist_model.specs.declared.Role.the-variants.{First, Second}
-use Rattle.table.specs.Table.{graphOf, outputValue}
+use Rattle.table.specs.Table.{constraintOf, functionsOf, graphOf, outputValue}
 use Rattle.truth.specs.Truth.{Setting}
 use lib.ListN.{length}
 use mathlib.Core.List.{List, [], _∷_}
@@ -34,10 +34,13 @@ pub data Each (P : Call → Type 0) : List Call → Type 0 where
 
 -- "After the list every output of both files still has its file's value on every setting, and each reply kept demand 2 for the files'
 -- outputs", and what demand 3 says of its rows, its steps and its cause. Of each that was not refused: what its marks mean, and what the rules
--- say of its reply by them. (RULES 7.4, 12.3)
+-- say of its reply by them. "Merges of vertices still hold on all settings": every vertex has the function that it had as loaded. The table's word
+-- for r: "comparisons leave it". (RULES 4.5, 6.9, 7.4, 12.3)
 pub record Holds (d e : Netlist) (loaded : List ℕ) (calls : List Call) (last : List ℕ) : Type 0 where
   pub values : (side k : ℕ) (s : Setting) → k < length (d .outputs) → length s ≡ d .inputs
       → outputValue (graphOf last) side k s ≡ sideValue d e side k s
+  pub vertices : functionsOf (graphOf last) ≡ functionsOf (graphOf loaded)
+  pub constraint : constraintOf last ≡ constraintOf loaded
   pub replies : Each (λ c. ReplyKept d e loaded (c .given) (c .left) (c .left .reply)) calls
   pub marks : Each (λ c. refusalOf (c .given) ≡ 0 → MarksKept (problemBy loaded (c .given)) (c .left .marks) (c .left .reply)) calls
   pub conditions : Each (λ c. refusalOf (c .given) ≡ 0 → ReplySays loaded (c .given) (c .left) (c .left .reply)) calls

@@ -25,7 +25,7 @@ otherFile = withOneGate (71 ∷ 9 ∷ 111 ∷ 114 ∷ 9 ∷ 50 ∷ 9 ∷ 52 ∷ 
 
 -- The netlist of each: one gate of inputs 1 and 2, and its output.
 abbrev pub oneGate : Operation → Netlist
-oneGate op = record { edition = 1; inputs = 2; names = []; gates = record { op = op; p = 2; q = 4 } ∷ []; outputs = 6 ∷ [] }
+oneGate op = record { edition = 1; inputs = 2; names = []; gates = record { op = op; p = 2; q = 4 } ∷ []; outputs = 6 ∷ []; constraints = [] }
 
 -- The table before the load, and after it.
 abbrev pub before : List ℕ
@@ -62,7 +62,7 @@ pub record Example : Type 0 where
   pub left : readNetlist First andFile ≡ read (oneGate And)
   pub right : readNetlist (Second 1) otherFile ≡ read (oneGate Or)
   pub ran : Ran after (firstCall ∷ secondCall ∷ thirdCall ∷ []) (thirdCall .left .table)
-  pub suffice : Suffice (oneGate And) (oneGate Or) leastLimits
+  pub suffice : Suffice after (oneGate And) (oneGate Or) 0 leastLimits
   pub first-accepted : refusalOf (firstCall .given) ≡ 0
   pub first-reply : firstCall .left .reply ≡ Said.different 4 6 0
   pub first-setting : firstCall .left .setting ≡ 48 ∷ 49 ∷ []

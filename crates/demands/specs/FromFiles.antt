@@ -21,7 +21,8 @@ pub record Demanded (left right loaded : List ℕ) (calls : List Call) (last : L
   pub second-read : readNetlist (Second (first .edition)) right ≡ read second
   pub holds : Holds first second loaded calls last
   pub decides : Each
-      (λ c. refusalOf (c .given) ≡ 0 → Suffice first second (c .given .limits) → Decided first second (c .given .output) (c .left .reply)) calls
+      (λ c. refusalOf (c .given) ≡ 0 → Suffice loaded first second (c .given .output) (c .given .limits) → Decided first second (c .given .output) (c .left .reply))
+      calls
 
 -- The premises are the contract of load, that its result was Accepted, and that each call of the list keeps the contract of compare.
 abbrev pub FromFiles : Type 0

@@ -36,8 +36,8 @@ pub data Numbered : ℕ → List Call → Type 0 where
   none : {k : ℕ} → Numbered k []
   next : {k : ℕ} {c : Call} {cs : List Call} → c .given .output ≡ k → c .given .limits ≡ programLimits → Numbered (suc k) cs → Numbered k (c ∷ cs)
 
--- A line on output k that is true of two files and opens with their edition: `equal` where the output agrees on every setting, `different`
--- with the first setting on which it does not, or one of the undecided words. (RULES 11.4, 12.2)
+-- A line on output k that is true of two files and opens with their edition: `equal` where the output agrees on every allowed setting,
+-- `different` with the first allowed one on which it does not, or one of the undecided words. (RULES 11.4, 12.2)
 pub data TrueLine (d e : Netlist) (k : ℕ) : List ℕ → Type 0 where
   says-equal : (rows steps : ℕ) → Agree d e k → TrueLine d e k (replyLine (d .edition) k Equal [] None rows steps)
   says-different : (rows steps : ℕ) {before after : List ℕ} (s : Separated d e k before after)
