@@ -5,9 +5,10 @@ Writes CRATE/data/graphs.txt, the sweeps that the program `run_sweep` runs, and 
 
 COMPARISONS (tools/comparisons.tsv) has a line for each comparison, with tabs between: list, left, right (lines parted by `;`,
 fields by `,`), output, size limit, row limit, step limit, then what must come: reply, vertex, setting, rows, steps, rows added, marks
-(a digit for each vertex), the table's words. Lines with the same list number follow one another on one table.
+(a digit for each vertex), the table's words, r's last. Lines with the same list number follow one another on one table. Only the lines of edition 1
+whose table has 1 for r are taken here: a sweep knows neither names nor r.
 
-graphs.txt has a card for each comparison, with `%` between them, and each card's fields with `|` between them: list; how many
+graphs.txt has a card for each such comparison, with `%` between them, and each card's fields with `|` between them: list; how many
 vertices come first (the constant and the inputs) and how many there are; inputs; the two literals looked at; size limit, row limit, step
 limit; the graph as loaded (two words a vertex, with `,` between them); and the end of the line. The graph is empty where the card
 goes on with the graph as the card before left it.
@@ -17,6 +18,7 @@ CRATE/stdout has a line for each: the reply's line with the list for the output,
 import sys
 
 EDITION = "1"
+TRUE = "1"
 HEADER = 3
 
 
@@ -59,7 +61,7 @@ class Graph:
             operands = [literals[int(r) // 2] ^ int(r) % 2 for r in record if r.isdigit()]
             if record[0] == "G":
                 literals.append(self.gate(record[1], *operands))
-            else:
+            if record[0] == "O":
                 outputs += operands
         return outputs
 
@@ -82,6 +84,7 @@ def case(fields, goes_on):
 def main(comparisons, crate):
     with open(comparisons) as file:
         lines = [line.rstrip("\n").split("\t") for line in file]
+    lines = [fields for fields in lines if fields[1].startswith("N," + EDITION) and fields[-1].endswith("," + TRUE)]
     befores = [None] + [fields[0] for fields in lines]
     cases = [case(fields, fields[0] == before) for fields, before in zip(lines, befores)]
     with open(crate + "/data/graphs.txt", "w") as file:

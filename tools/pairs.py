@@ -8,7 +8,7 @@ short: out, table, pairs, look, diagrams, stages, rows, marks, setting.
 import os
 import sys
 
-SHORT = [b"nothing\n", b"refused\t9\t0\t0\n"] + 4 * [b"refused\t14\t0\t0\n"] + 3 * [b"nothing\n"]
+SHORT = [b"nothing\n", b"refused\t9\t0\t0\n"] + 7 * [b"nothing\n"]
 
 
 def main():

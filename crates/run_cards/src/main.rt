@@ -4,12 +4,16 @@ use comparer::Limits;
 use comparer::Reply;
 use libc::STDOUT_FILENO;
 use load::Loaded;
-use load::WORKING_ROOM;
 use run_card_file::field;
 use run_card_file::number;
 use run_card_file::number_at;
 use run_card_file::number_count;
 ghost use Prim.Native.Nat.{_≤_};
+
+// The most vertices of a comparison: those of a table and the two next ones.
+const VERTICES: usize = load::MAX_VERTICES + compare_model::NEXT_VERTICES;
+
+const WORKING_ROOM: usize = 2 * VERTICES;
 
 // Four words a row of the highest row limit.
 const ROWS_ROOM: usize = 4 * 32768;
@@ -136,7 +140,7 @@ fn compare_card(
     stages: &mut [u32; WORKING_ROOM],
     rows: &mut [u32; ROWS_ROOM],
 ) -> bool {
-    let mut marks = [MARK_BEFORE; load::MAX_VERTICES];
+    let mut marks = [MARK_BEFORE; VERTICES];
     let mut setting = [SETTING_BEFORE; SETTING_ROOM];
     let output = number(field(card, 3));
     let reply = comparer::compare(

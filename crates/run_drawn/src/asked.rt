@@ -3,11 +3,20 @@
 use crate::random::draw;
 ghost use Prim.Native.Nat.{_<_, _≤_};
 
-// What is known of a table: its counts, and each output's first difference, a setting or tables::SETTINGS.
+// What is known of a table: its counts, the vertices being those of a comparison; the place of the constraint's word, and that word as loaded;
+// and the first differences on allowed settings and on all.
 pub struct Facts {
     pub inputs: u32,
     pub outputs: u32,
     pub vertices: u32,
+    pub constraint_at: usize,
+    pub constraint: u32,
+    pub allowed: Differences,
+    pub all: Differences,
+}
+
+// The first difference of each output, a setting or tables::SETTINGS.
+pub struct Differences {
     pub first: u32,
     pub second: u32,
     pub third: u32,

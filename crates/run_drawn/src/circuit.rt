@@ -1,4 +1,5 @@
-// A circuit as words: the counts of inputs, gates and outputs, the output references, and three words a gate: operation, p, q.
+// A circuit as words: the counts of inputs, gates, outputs and constraints, the output references, the constraint's, and three words a gate:
+// operation, p, q.
 // Every place is reduced to the words' number.
 use crate::random::draw;
 use crate::random::draw_late;
@@ -13,17 +14,24 @@ pub const OR: u32 = 1;
 
 pub const XOR: u32 = 2;
 
+// The reference of the constant true.
+pub const TRUE: u32 = 1;
+
 // The most outputs.
 pub const OUTPUTS: u32 = 3;
 
-// The places of the counts, the first output reference and the first gate.
+// The places of the counts, the first output reference, the constraint's and the first gate.
 const INPUTS_AT: u32 = 0;
 
 const GATES_AT: u32 = 1;
 
 const OUTPUTS_AT: u32 = 2;
 
+const CONSTRAINTS_AT: u32 = 3;
+
 const REFERENCES_AT: u32 = 4;
+
+const CONSTRAINT_AT: u32 = 7;
 
 const FIRST_GATE_AT: u32 = 8;
 
@@ -55,7 +63,17 @@ pub fn outputs(circuit: &[u32; WORDS]) -> u32
 
 // The reference of an output.
 pub fn output(circuit: &[u32; WORDS], k: u32) -> u32 {
-    word(circuit, REFERENCES_AT + k % 4)
+    word(circuit, REFERENCES_AT + k % OUTPUTS)
+}
+
+// Whether the file has a line with a constraint.
+pub fn has_constraint(circuit: &[u32; WORDS]) -> bool {
+    word(circuit, CONSTRAINTS_AT) != 0
+}
+
+// The reference of the constraint; TRUE where there is none.
+pub fn constraint(circuit: &[u32; WORDS]) -> u32 {
+    word(circuit, CONSTRAINT_AT)
 }
 
 pub fn operation(circuit: &[u32; WORDS], gate: u32) -> u32 {
@@ -101,6 +119,8 @@ pub fn begin(circuit: &mut [u32; WORDS], inputs: u32, outputs: u32) {
     store(circuit, INPUTS_AT, inputs);
     store(circuit, GATES_AT, 0);
     store(circuit, OUTPUTS_AT, outputs);
+    store(circuit, CONSTRAINTS_AT, 0);
+    store(circuit, CONSTRAINT_AT, TRUE);
 }
 
 // Adds a gate and gives back its reference.
@@ -115,7 +135,14 @@ pub fn add_gate(circuit: &mut [u32; WORDS], operation: u32, p: u32, q: u32) -> u
 }
 
 pub fn set_output(circuit: &mut [u32; WORDS], k: u32, r: u32) {
-    store(circuit, REFERENCES_AT + k % 4, r);
+    store(circuit, REFERENCES_AT + k % OUTPUTS, r);
+}
+
+// A constraint: any reference, a late one more often.
+pub fn draw_constraint(circuit: &mut [u32; WORDS], seed: &mut u32) {
+    let r = draw_late(seed, references(circuit));
+    store(circuit, CONSTRAINTS_AT, 1);
+    store(circuit, CONSTRAINT_AT, r);
 }
 
 // A circuit of 0 to 10 inputs, 0 to 20 gates and 1 to 3 outputs.

@@ -4,6 +4,7 @@ use crate::TABLE;
 use crate::VERTICES;
 use crate::asked;
 use crate::asked::Asked;
+use crate::asked::Differences;
 use crate::asked::Facts;
 use crate::settings;
 use crate::tables;
@@ -46,8 +47,13 @@ pub fn compare_all(
             marks,
             &mut setting,
         );
-        judge(reply, asked, facts, marks, &setting, tally);
+        judge(reply, asked, facts, table, marks, &setting, tally);
     }
+}
+
+// A word of a table.
+pub fn word(table: &[u32; TABLE], at: usize) -> u32 {
+    table[at % TABLE]
 }
 
 fn limits_of(asked: Asked) -> Limits {
@@ -58,23 +64,27 @@ fn limits_of(asked: Asked) -> Limits {
     }
 }
 
-// The refusal that was asked for came, or none; the setting is written where the reply is that the sides differ, and left alone where not.
+// The refusal that was asked for came, or none; the constraint's word is what it was as loaded; the setting is written where the reply is that the
+// sides differ, and left alone where not.
 fn judge(
     reply: Reply,
     asked: Asked,
     facts: Facts,
+    table: &[u32; TABLE],
     marks: &[u8; VERTICES],
     setting: &[u8; settings::BYTES],
     tally: &mut [u32; KINDS],
 ) {
-    let difference = difference_of(facts, asked.output);
+    let difference = difference_of(facts.allowed, asked.output);
     let written = written_inputs(reply, facts.inputs);
     tally::hold(tally, refusal_of(reply) == asked.number);
+    tally::hold(tally, word(table, facts.constraint_at) == facts.constraint);
     tally::hold(tally, settings::holds(setting, difference, written));
     match reply {
         Reply::Equal(counts) => {
             let is_right = difference == tables::SETTINGS && counts.added == 0;
             count_reply(tally::EQUAL, is_right, counts, asked, tally);
+            count_equal(difference_of(facts.all, asked.output), tally);
         }
         Reply::Different(counts) => {
             let is_right = difference < tables::SETTINGS && counts.added == 0;
@@ -92,11 +102,18 @@ fn judge(
 }
 
 // The first difference of an output.
-fn difference_of(facts: Facts, output: u32) -> u32 {
+fn difference_of(differences: Differences, output: u32) -> u32 {
     match output {
-        0 => facts.first,
-        1 => facts.second,
-        _ => facts.third,
+        0 => differences.first,
+        1 => differences.second,
+        _ => differences.third,
+    }
+}
+
+// Counts an Equal to outputs with a difference, which is on a setting that is not allowed.
+fn count_equal(difference: u32, tally: &mut [u32; KINDS]) {
+    if difference < tables::SETTINGS {
+        tally::count(tally, tally::EQUAL_BY_R);
     }
 }
 

@@ -22,7 +22,8 @@ pub fn write(
     let at = write_header(circuit, edition, file);
     let at = write_names(order, name_count(circuit, edition), file, at);
     let at = write_gates(circuit, order, file, at);
-    write_outputs(circuit, order, file, at)
+    let at = write_outputs(circuit, order, file, at);
+    write_constraint(circuit, order, file, at)
 }
 
 // How many lines with names there are.
@@ -124,6 +125,22 @@ fn write_output(
     let inputs = circuit::inputs(circuit);
     let r = order::reference(order, inputs, circuit::output(circuit, k));
     let at = put(file, at, b'O');
+    let at = put_field(file, at, r);
+    put(file, at, b'\n')
+}
+
+fn write_constraint(
+    circuit: &[u32; WORDS],
+    order: &[u32; order::WORDS],
+    file: &mut [u8; BYTES],
+    at: usize,
+) -> usize {
+    if !circuit::has_constraint(circuit) {
+        return at;
+    }
+    let inputs = circuit::inputs(circuit);
+    let r = order::reference(order, inputs, circuit::constraint(circuit));
+    let at = put(file, at, b'C');
     let at = put_field(file, at, r);
     put(file, at, b'\n')
 }

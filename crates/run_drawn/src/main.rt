@@ -1,7 +1,9 @@
 // Many drawn pairs of circuits: each is written as two drawing files, loaded and compared under varied limits, and each reply is held
 // against truth tables that this program computes from the gates that it drew. Every third pair is of edition 2, and the inputs of its second
-// file are shuffled. First how many pairs were drawn, how many of them with names, and how many of these with a cycle of three inputs; then a line
-// for each kind of reply, how many came, and how many answers were wrong.
+// file are shuffled. A third of the pairs, of either edition, have a constraint r in the first file, and their replies are held against the truth
+// tables on allowed settings. First how many pairs were drawn, how many of them with names, how many of these with a cycle of three inputs, how
+// many pairs with r, and how often Equal was replied to outputs that differ on a setting that is not allowed; then a line for each kind of reply,
+// how many came, and how many answers were wrong.
 mod asked;
 mod circuit;
 mod compared;
@@ -18,14 +20,14 @@ mod tally;
 // How many pairs are drawn.
 const PAIRS: u32 = 600;
 
-// The words of the longest table; a working slice of two words a vertex is a word shorter.
-const TABLE: usize = 12419;
+// The words of the longest table, and of each working slice: no drawn pair needs as many.
+const TABLE: usize = load::MAX_TABLE;
 
 // The words of the largest row limit: four a row.
 const ROWS: usize = 32768;
 
-// The bytes of the marks and of the evaluator's values, one a vertex.
-const VERTICES: usize = 6209;
+// The bytes of the marks and of the evaluator's values, one a vertex, the two next vertices of a comparison among them.
+const VERTICES: usize = load::MAX_VERTICES + compare_model::NEXT_VERTICES;
 
 // Draws the pairs, one after the other, and prints what came of them.
 fn main() {

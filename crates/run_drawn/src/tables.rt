@@ -118,11 +118,11 @@ pub fn value(truth: &[u64; WORDS], r: u32, setting: u32) -> u8 {
     if bits % 2 == 0 { 0 } else { 1 }
 }
 
-// The first setting on which two references differ, or SETTINGS.
-pub fn first_difference(one: &[u64; WORDS], p: u32, two: &[u64; WORDS], q: u32) -> u32 {
+// The first setting on which r of the first circuit is true and the two references p and q differ, or SETTINGS.
+pub fn first_difference(one: &[u64; WORDS], p: u32, two: &[u64; WORDS], q: u32, r: u32) -> u32 {
     let mut k = 0;
     while k < VERTEX {
-        let differing = word(one, p, k) ^ word(two, q, k);
+        let differing = (word(one, p, k) ^ word(two, q, k)) & word(one, r, k);
         if differing != 0 {
             return 64 * k + lowest(differing);
         }

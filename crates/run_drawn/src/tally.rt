@@ -1,7 +1,8 @@
-// How many pairs had names, how many of these a cycle of three inputs, how many replies of each kind came, and how many answers were wrong.
+// How many pairs had names, how many of these a cycle of three inputs, how many pairs had a constraint, how many replies were Equal only by it, how
+// many replies of each kind came, and how many answers were wrong.
 use libc::STDOUT_FILENO;
 
-pub const KINDS: usize = 9;
+pub const KINDS: usize = 11;
 
 pub const EQUAL: usize = 0;
 
@@ -21,6 +22,10 @@ pub const BY_NAME: usize = 7;
 
 pub const CYCLES: usize = 8;
 
+pub const CONSTRAINED: usize = 9;
+
+pub const EQUAL_BY_R: usize = 10;
+
 pub fn count(tally: &mut [u32; KINDS], kind: usize) {
     tally[kind % KINDS] = std::num::wrapping_add_u32(tally[kind % KINDS], 1);
 }
@@ -38,6 +43,8 @@ pub fn print(pairs: u32, tally: &[u32; KINDS]) {
     print_line(b"pairs ", pairs);
     print_kind(b"by name ", tally, BY_NAME);
     print_kind(b"cycles of three ", tally, CYCLES);
+    print_kind(b"with r ", tally, CONSTRAINED);
+    print_kind(b"equal by r ", tally, EQUAL_BY_R);
     print_kind(b"equal ", tally, EQUAL);
     print_kind(b"different ", tally, DIFFERENT);
     print_kind(b"size ", tally, SIZE);

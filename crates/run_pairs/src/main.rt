@@ -1,7 +1,8 @@
 // The program's call on many pairs: for each name of the file `names` the name, and the report on the files of that folder. Then the and/or
 // pair with each lent slice one element short.
 use libc::STDOUT_FILENO;
-use load::WORKING_ROOM;
+use report_model::COMPARE_ROOM;
+use report_model::COMPARE_VERTICES;
 ghost use Prim.Native.Nat.{_≤_};
 ghost use Rattle.io.specs.Counts.{Counts};
 ghost use lib.ListN.{length};
@@ -100,17 +101,17 @@ fn report_and_or(short: usize) {
 fn print_report(left: &[u8], right: &[u8], short: usize) {
     let mut out = [0u8; report_model::REPORT_ROOM];
     let mut table = [0u32; load::MAX_TABLE];
-    let mut pairs = [0u32; WORKING_ROOM];
-    let mut look = [0u32; WORKING_ROOM];
-    let mut diagrams = [0u32; WORKING_ROOM];
-    let mut stages = [0u32; WORKING_ROOM];
+    let mut pairs = [0u32; COMPARE_ROOM];
+    let mut look = [0u32; COMPARE_ROOM];
+    let mut diagrams = [0u32; COMPARE_ROOM];
+    let mut stages = [0u32; COMPARE_ROOM];
     let mut rows = [0u32; report_model::ROWS_ROOM];
-    let mut marks = [0u8; load::MAX_VERTICES];
+    let mut marks = [0u8; COMPARE_VERTICES];
     let mut setting = [0u8; SETTING_ROOM];
     let out_end = report_model::REPORT_ROOM - less(short, 0);
     let table_end = load::MAX_TABLE - less(short, 1);
     let rows_end = report_model::ROWS_ROOM - less(short, 6);
-    let marks_end = load::MAX_VERTICES - less(short, 7);
+    let marks_end = COMPARE_VERTICES - less(short, 7);
     let setting_end = SETTING_ROOM - less(short, 8);
     print_with(
         left,
@@ -143,13 +144,13 @@ fn print_with(
     marks: &mut [u8],
     setting: &mut [u8],
 )
-    requires { ⌜ (12418 ≤ length (now pairs)) × (12418 ≤ length (now look)) ⌝ }
-    requires { ⌜ (12418 ≤ length (now diagrams)) × (12418 ≤ length (now stages)) ⌝ }
+    requires { ⌜ (12422 ≤ length (now pairs)) × (12422 ≤ length (now look)) ⌝ }
+    requires { ⌜ (12422 ≤ length (now diagrams)) × (12422 ≤ length (now stages)) ⌝ }
 {
-    let pairs_end = WORKING_ROOM - less(short, 2);
-    let look_end = WORKING_ROOM - less(short, 3);
-    let diagrams_end = WORKING_ROOM - less(short, 4);
-    let stages_end = WORKING_ROOM - less(short, 5);
+    let pairs_end = COMPARE_ROOM - less(short, 2);
+    let look_end = COMPARE_ROOM - less(short, 3);
+    let diagrams_end = COMPARE_ROOM - less(short, 4);
+    let stages_end = COMPARE_ROOM - less(short, 5);
     let end = report_pair::report_pair(
         left,
         right,

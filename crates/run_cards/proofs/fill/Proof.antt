@@ -9,7 +9,7 @@ abbrev Inv-loop : tie.InvT-loop
 Inv-loop table₀ i₀ table i = Unit {0}
 
 abbrev μ-loop : tie.MeasureT-loop
-μ-loop table₀ i₀ table i = 12419 - i
+μ-loop table₀ i₀ table i = 12420 - i
 
 loop-holds : tie.Need-loop-holds Inv-loop μ-loop
 loop-holds c = search needs

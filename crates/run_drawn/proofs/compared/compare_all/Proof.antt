@@ -4,6 +4,7 @@ use Prim.Native.Nat.{_-_}
 use Rattle.run_drawn.proofs.compared.compare_all.Statement.{statement}
 use Rattle.run_drawn.proofs.compared.compare_all.Tie as tie
 use borrow.Author.Needs.{needs}
+use native.Mathlib.Omega.{arith}
 
 abbrev Inv-loop : tie.InvT-loop
 Inv-loop table₀ pairs₀ look₀ diagrams₀ stages₀ rows₀ marks₀ facts seed₀ tally₀ turns first₀ turn₀ table pairs look diagrams stages rows marks seed tally first turn = Unit
@@ -36,7 +37,7 @@ judge-requires : tie.Need-judge-requires Inv-loop μ-loop
 judge-requires c κs = search needs
 
 loop-less : tie.Need-loop-less Inv-loop μ-loop
-loop-less c = search needs
+loop-less c = omega (arith, c .before .before .before .before .before .before .before .before .before .before .before .before .before .before .before .before .before .before .before .loop-test .taken)
 
 loop-again : tie.Need-loop-again Inv-loop μ-loop
 loop-again c = tt

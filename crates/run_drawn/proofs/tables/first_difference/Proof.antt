@@ -6,10 +6,10 @@ use Rattle.run_drawn.proofs.tables.first_difference.Tie as tie
 use borrow.Author.Needs.{needs}
 
 abbrev Inv-loop : tie.InvT-loop
-Inv-loop one p two q k₀ k = k ≤ 16
+Inv-loop one p two q r k₀ k = k ≤ 16
 
 abbrev μ-loop : tie.MeasureT-loop
-μ-loop one p two q k₀ k = 16 - k
+μ-loop one p two q r k₀ k = 16 - k
 
 loop-holds : tie.Need-loop-holds Inv-loop μ-loop
 loop-holds c = search needs
@@ -19,6 +19,9 @@ word-requires c κs = search needs
 
 word-requires-2 : tie.Need-word-requires-2 Inv-loop μ-loop
 word-requires-2 c κs = search needs
+
+word-requires-3 : tie.Need-word-requires-3 Inv-loop μ-loop
+word-requires-3 c κs = search needs
 
 mul-result : tie.Need-mul-result Inv-loop μ-loop
 mul-result c = search needs
@@ -53,6 +56,7 @@ first-difference-spec =
     loop-holds
     word-requires
     word-requires-2
+    word-requires-3
     mul-result
     lowest-requires
     add-result
