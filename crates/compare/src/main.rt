@@ -1,4 +1,5 @@
 // The program: compares the drawings `left.tsv` and `right.tsv`, and prints a line for each output or why they are refused.
+#![tactic(auto)]
 use libc::{STDERR_FILENO, STDOUT_FILENO};
 
 // A byte more than a file may have, so that a longer one is seen to be too long.

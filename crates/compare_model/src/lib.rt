@@ -1,4 +1,5 @@
 // A comparison: what it is asked.
+#![tactic(auto)]
 
 // The vertices that it may have beside the table's: the ANDs of the constraint with the two outputs.
 pub const NEXT_VERTICES: usize = 2;

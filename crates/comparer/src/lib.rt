@@ -1,4 +1,5 @@
 // compare: the output of a table on both sides.
+#![tactic(auto)]
 mod task;
 mod work;
 

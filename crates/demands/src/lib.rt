@@ -1,1 +1,2 @@
 // demands
+#![tactic(auto)]

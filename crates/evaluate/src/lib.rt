@@ -1,4 +1,5 @@
 // The evaluator: the value of one side's output on a setting.
+#![tactic(auto)]
 mod values;
 
 ghost use Rattle.evaluate_model.specs.Evaluate.{Kept, answer_of, evaluation};

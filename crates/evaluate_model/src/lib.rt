@@ -1,5 +1,6 @@
 // Evaluating one side's output on a setting: the answer, and the bytes of a setting. What is evaluated is a definition, in specs/; there is
 // no code here.
+#![tactic(auto)]
 
 // 0 or 1, or the number of the refusal.
 #[derive(Drop)]

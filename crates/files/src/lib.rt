@@ -1,4 +1,5 @@
 // A file's bytes by its name.
+#![tactic(auto)]
 ghost use Rattle.io.specs.Counts.{IsPrefixLen};
 
 // Reads the front of a file into `bytes` and gives back how many there are: none of a file that cannot be read.

@@ -1,4 +1,5 @@
 // Loading: two drawing files into one table.
+#![tactic(auto)]
 ghost use Rattle.load_model.specs.Load.{answer_of, load_result, table_loaded};
 ghost use Rattle.load_model.specs.Lent.{Kept, room_in, working};
 ghost use Rattle.std.specs.Prelude.{◌≡◌};

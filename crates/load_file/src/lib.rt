@@ -1,4 +1,5 @@
 // One file into the graph: its gates asked for, its outputs and its constraint as literals of the graph.
+#![tactic(auto)]
 ghost use Rattle.std.specs.Prelude.{◌*◌, ◌+◌, ◌<◌, ◌≤◌, drop, length, take, [], ◌∷◌, map, ◌≡◌};
 ghost use Rattle.aig.specs.Literal.{lit, vertex_of};
 ghost use Rattle.load_model.specs.Build.{ask_gates, literal_for};

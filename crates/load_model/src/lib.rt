@@ -1,4 +1,5 @@
 // Loading: two drawing files into one table. What it answers and what it must be lent; there is no code here.
+#![tactic(auto)]
 
 // The most vertices: the constant, the inputs and the ANDs.
 pub const MAX_VERTICES: usize = 1 + table::MAX_INPUTS as usize + table::MAX_ANDS as usize;

@@ -1,4 +1,5 @@
 // Both files loaded: the graph, and then the table.
+#![tactic(auto)]
 mod layout;
 
 ghost use Rattle.std.specs.Prelude.{◌≤◌, length, ◌≡◌};

@@ -1,4 +1,5 @@
 // Drawing files of both editions: what their records, a whole file's check and the netlist that it holds are.
+#![tactic(auto)]
 
 // The editions: inputs paired by place, and by name.
 pub const BY_PLACE: u32 = 1;

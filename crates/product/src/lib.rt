@@ -1,4 +1,5 @@
 // The product: the recursive AND of two diagrams, counted.
+#![tactic(auto)]
 ghost use Rattle.std.specs.Prelude.{◌-◌, ◌<◌, ◌≤◌};
 ghost use Rattle.bdd.specs.Diagram.{Reference};
 ghost use Rattle.bdd.specs.code.Rows.{MARK};

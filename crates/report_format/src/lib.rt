@@ -1,4 +1,5 @@
 // The lines that the program prints. They are definitions, in specs/; there is no code here.
+#![tactic(auto)]
 
 // What a reply is called.
 #[derive(Drop)]

@@ -1,4 +1,5 @@
 // The report: the program's limits, and the room that it needs.
+#![tactic(auto)]
 
 // "with size and row limits 4,096 and step limit 1,000,000"
 pub const SIZE_LIMIT: u32 = 4096;

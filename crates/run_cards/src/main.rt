@@ -1,5 +1,6 @@
 // The bench cards of `cards.txt` run: a line for each, `ok` or what is not as the card says, and how many passed.
 // The file's layout stands in tools/cards.py, which writes it.
+#![tactic(auto)]
 ghost use Rattle.std.specs.Prelude.{◌≤◌};
 
 use comparer::{Limits, Reply};

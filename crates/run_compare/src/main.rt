@@ -2,6 +2,7 @@
 // refusal's number and whether a lent slice changed.
 // The fields of a case: its name; the words at the table's front; the output; the size limit; the row limit; two numbers whose sum is the
 // step limit; the lengths lent of table, pairs, look, diagrams, stages, rows, marks and setting.
+#![tactic(auto)]
 ghost use Rattle.std.specs.Prelude.{◌≤◌};
 
 use comparer::{Cause, Limits, Reply};

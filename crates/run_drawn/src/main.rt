@@ -4,6 +4,7 @@
 // tables on allowed settings. First how many pairs were drawn, how many of them with names, how many of these with a cycle of three inputs, how
 // many pairs with r, and how often Equal was replied to outputs that differ on a setting that is not allowed; then a line for each kind of reply,
 // how many came, and how many answers were wrong.
+#![tactic(auto)]
 mod asked;
 mod circuit;
 mod compared;

@@ -2,6 +2,7 @@
 // on tables with no inputs, the most inputs and the most vertices, and with constraints, of which the value takes no notice. A line for each
 // call: what was asked, and what came.
 // The fields of a call: its name; the table's words, none for the chain of the most vertices; side; output; setting; the working slice's bytes.
+#![tactic(auto)]
 ghost use Rattle.std.specs.Prelude.{◌≤◌, length, ◌≡◌};
 
 use evaluate::Evaluated;

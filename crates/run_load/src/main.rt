@@ -3,6 +3,7 @@
 // then the table's first words.
 // The fields of a pair, from the second on: its name; both drawing files; how many words of the table are shown; for each file, where it is
 // made here, the numbers that it is made of; and how many words short of the largest pair the table and the working slices are.
+#![tactic(auto)]
 mod file;
 
 ghost use Rattle.std.specs.Prelude.{◌≤◌};

@@ -1,5 +1,6 @@
 // The checker on good and on damaged drawing files, those of `files.txt` and the longest. A line for each: what the file is, and what came; a C
 // line's reference where it is not 1.
+#![tactic(auto)]
 ghost use Rattle.std.specs.Prelude.{◌<◌, ◌≤◌, length};
 
 use libc::STDOUT_FILENO;

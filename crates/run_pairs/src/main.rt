@@ -1,5 +1,6 @@
 // The program's call on many pairs: for each name of the file `names` the name, and the report on the files of that folder. Then the and/or
 // pair with each lent slice one element short.
+#![tactic(auto)]
 ghost use Rattle.std.specs.Prelude.{◌≤◌, length};
 ghost use Rattle.io.specs.Counts.{IsPrefixLen};
 

@@ -1,6 +1,7 @@
 // Products of diagrams: the circuits of `circuits.txt`, each vertex held to its values on every setting.
 // A line for each circuit: its name, the size of the last vertex made, rows and steps with their limits, the limit passed if any, and whether all values agree.
 // The file's layout stands in tools/circuits.py, which writes it.
+#![tactic(auto)]
 mod circuit;
 mod diagram;
 mod values;

@@ -1,5 +1,6 @@
 // Small working graphs swept as the cards of `graphs.txt` say, under limits of every kind. A line for each sweep: the reply's line with the card's
 // list for the output, the rows added, the marks, and the row of each made vertex. The file's layout stands in tools/graphs.py, which writes it.
+#![tactic(auto)]
 mod asked;
 mod graph;
 mod show;

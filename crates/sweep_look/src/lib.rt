@@ -1,2 +1,3 @@
 // Whether a sweep ends: the two literals looked at.
+#![tactic(auto)]
 pub mod look;

@@ -1,4 +1,5 @@
 // The replies of a comparison. The sweep itself is a definition, in specs/; there is no code here.
+#![tactic(auto)]
 
 // Why a comparison is undecided; Rows and Steps name the vertex at which the limit was passed.
 #[derive(Drop)]

@@ -1,2 +1,3 @@
 // One pass over the working graph: its rows are normalised.
+#![tactic(auto)]
 pub mod normalise;

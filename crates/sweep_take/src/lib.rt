@@ -1,2 +1,3 @@
 // One pass over the working graph: what newly merged vertices hand over.
+#![tactic(auto)]
 pub mod take;

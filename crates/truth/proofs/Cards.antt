@@ -4,14 +4,14 @@ use Rattle.truth.specs.Distinct.{among, distinct, filter}
 use Rattle.truth.specs.Parts.{alike?, all_parts, cofactors, depends?, parts, size, together}
 use Rattle.truth.specs.Steps.{calls, steps, terminal?}
 use Rattle.truth.specs.Truth.{conj, constant?, constantly, exclusive, input, invert, same?}
-use mathlib.Core.Bool.{false, true}
-use mathlib.Core.Path.{refl}
+use mathlib.Core.Bool.{Bool, false, true}
+use mathlib.Core.Path.{◌≡◌, refl}
 
 pub parts-and_steps : PartsAndSteps
 unfolding among distinct filter alike? all_parts cofactors depends? parts size together calls steps terminal? conj constant? constantly exclusive input invert same?
 parts-and_steps =
     record {
-      parts-constant = λ v. elim v [ true ↦ refl | false ↦ refl ];
+      parts-constant = constant;
       parts-a = refl;
       parts_and = refl;
       parts_xor = refl;
@@ -20,3 +20,7 @@ parts-and_steps =
       steps-inverse = refl;
       steps_false = refl;
     }
+  where
+    constant : (v : Bool) → size (constantly 2 v) ≡ 0
+    constant true = refl
+    constant false = refl

@@ -66,29 +66,31 @@ first_difference_lem (halves {m = m} {f = a} {g = b} p q) (halves {f = c} {g = d
         record {
           digits = ap suc r.digits;
           differ = r.differ;
-          first = λ t. elim t [ [] ↦ λ n k. absurd (omega arith) | x ∷ t ↦ one-first r x t ];
+          first = one-first r;
         }
       where
-        one-first : FirstDifference m b d (first_difference b d) → (x : Bool) (t : Setting) → length (x ∷ t) ≡ suc m
-            → number_of (x ∷ t) < number_of (true ∷ first_difference b d) → value_at (node a b) (x ∷ t) ≡ value_at (node c d) (x ∷ t)
-        one-first r true t n k =
+        one-first : FirstDifference m b d (first_difference b d) → (t : Setting) → length t ≡ suc m
+            → number_of t < number_of (true ∷ first_difference b d) → value_at (node a b) t ≡ value_at (node c d) t
+        one-first r [] n k = absurd (omega arith)
+        one-first r (true ∷ t) n k =
             let l : length t ≡ length (first_difference b d) = omega (arith, r.digits) in
             r.first t (omega arith) (omega (arith, number-one t, number-one (first_difference b d), ap (λ m. 2 ^ m) l))
-        one-first r false t n k = ap (λ f. value_at f t) (same-equal a c e)
+        one-first r (false ∷ t) n k = ap (λ f. value_at f t) (same-equal a c e)
     go false e zero-half one-half =
         let r = zero-half (λ k. clash (equal-same k) e) in
         record {
           digits = ap suc r.digits;
           differ = r.differ;
-          first = λ t. elim t [ [] ↦ λ n k. absurd (omega arith) | x ∷ t ↦ zero_first_lem r x t ];
+          first = zero_first_lem r;
         }
       where
-        zero_first_lem : FirstDifference m a c (first_difference a c) → (x : Bool) (t : Setting) → length (x ∷ t) ≡ suc m
-            → number_of (x ∷ t) < number_of (false ∷ first_difference a c) → value_at (node a b) (x ∷ t) ≡ value_at (node c d) (x ∷ t)
-        zero_first_lem r true t n k =
+        zero_first_lem : FirstDifference m a c (first_difference a c) → (t : Setting) → length t ≡ suc m
+            → number_of t < number_of (false ∷ first_difference a c) → value_at (node a b) t ≡ value_at (node c d) t
+        zero_first_lem r [] n k = absurd (omega arith)
+        zero_first_lem r (true ∷ t) n k =
             let l : length t ≡ length (first_difference a c) = omega (arith, r.digits) in
             absurd (omega (arith, number-one t, number_zero (first_difference a c), number_bound (first_difference a c), ap (λ m. 2 ^ m) l))
-        zero_first_lem r false t n k = r.first t (omega arith) (omega (arith, number_zero t, number_zero (first_difference a c)))
+        zero_first_lem r (false ∷ t) n k = r.first t (omega arith) (omega (arith, number_zero t, number_zero (first_difference a c)))
 
 -- It is the only one: no other setting is the first.
 pub first_unique : {m : ℕ} {f g : Truth} {s t : Setting} → FirstDifference m f g s → FirstDifference m f g t → s ≡ t
