@@ -23,10 +23,10 @@ bits =
       good_false = tt;
       good-invert = λ x g. tt;
       good-both = λ x y g h. tt;
-      invert-invert = λ x g. elim x [ true ↦ refl | false ↦ refl ];
+      invert-invert = λ x g. not_not x;
       both_comm = λ x y g h. comm x y;
-      both-self = λ x g. elim x [ true ↦ refl | false ↦ refl ];
-      both-inverse = λ x g. elim x [ true ↦ refl | false ↦ refl ];
+      both-self = λ x g. self x;
+      both-inverse = λ x g. inverse x;
       both_false = λ x g. refl;
       both_true = λ x g. refl;
     }
@@ -36,6 +36,15 @@ bits =
     comm true false = refl
     comm false true = refl
     comm false false = refl
+    not_not : (x : Bool) → not (not x) ≡ x
+    not_not true = refl
+    not_not false = refl
+    self : (x : Bool) → (x && x) ≡ x
+    self true = refl
+    self false = refl
+    inverse : (x : Bool) → (x && not x) ≡ false
+    inverse true = refl
+    inverse false = refl
 
 -- All values are good where those of the list are.
 pub all-good : {A : Type 0} (Good : A → Type 0) (falsum : A) → Good falsum → (vs : List A) → ((v : ℕ) → v < length vs → Good (get_or vs v falsum)) → AllGood Good falsum vs

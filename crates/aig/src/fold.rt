@@ -5,7 +5,7 @@ ghost use Rattle.std.specs.Prelude.{◌≡◌};
 use crate::literal::Literal;
 
 // What an AND comes to: a literal, or a pair whose lower literal stands first.
-#[derive(Drop)]
+#[derive(Clone, Copy)]
 pub enum Folded {
     To(Literal),
     Pair(Literal, Literal),

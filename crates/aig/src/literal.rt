@@ -3,7 +3,7 @@ ghost use Rattle.std.specs.Prelude.{◌<◌, ◌^◌, ◌≡◌};
 ghost use Rattle.aig.specs.Literal.{inverted?, lit, literal_of, negate, onto, vertex_of};
 
 // Twice a vertex number, plus 1 if inverted.
-#[derive(Drop)]
+#[derive(Clone, Copy)]
 pub struct Literal(pub u32);
 
 impl Literal {

@@ -1,7 +1,7 @@
 // The answer of the look-up of vertices by their pairs. What it answers is a definition, in specs/; the code is in aig_lookup.
 
 // The vertex that has a pair, if any.
-#[derive(Drop)]
+#[derive(Clone, Copy)]
 pub enum Found {
     At(u32),
     Nothing,

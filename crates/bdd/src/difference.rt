@@ -8,7 +8,7 @@ ghost use Rattle.truth.specs.Settings.{first_difference};
 use crate::references::cofactor_of;
 
 // The digit of one input, and the cofactors there.
-#[derive(Drop)]
+#[derive(Clone, Copy)]
 pub struct Choice {
     pub byte: u8,
     pub f: usize,

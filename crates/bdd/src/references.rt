@@ -25,7 +25,7 @@ pub fn cofactor_of(rows: &[u32], b: bool, level: usize, r: usize) -> usize
 }
 
 // How the AND of two references ends without a look at their rows.
-#[derive(Drop)]
+#[derive(Clone, Copy)]
 pub enum Ending {
     Yes(usize),
     No,
@@ -64,7 +64,7 @@ fn higher(a: usize, b: usize) -> usize
 }
 
 // Two references f and g at the higher of their levels: the cofactors where that input is 0 and where it is 1.
-#[derive(Drop)]
+#[derive(Clone, Copy)]
 pub struct Halves {
     pub level: usize,
     pub f0: usize,

@@ -10,7 +10,7 @@ use bdd::references::edge_to;
 use bdd::rows::{RADIX, head_of, high_of, level_of, low_of, next_of, put_word};
 
 // Where a row is found or added: its reference and the rows then used, or no row is left.
-#[derive(Drop)]
+#[derive(Clone, Copy)]
 pub enum Made {
     At { reference: usize, used: usize },
     Full,

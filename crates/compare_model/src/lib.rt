@@ -5,7 +5,7 @@
 pub const NEXT_VERTICES: usize = 2;
 
 // The size limit, the row limit and the step limit. The last is wider, so that one that is too large can be given and refused.
-#[derive(Drop)]
+#[derive(Clone, Copy)]
 pub struct Limits {
     pub size: u32,
     pub rows: u32,

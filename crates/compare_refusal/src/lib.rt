@@ -14,7 +14,7 @@ pub const MAX_ROWS: u64 = 32768;
 pub const MAX_STEPS: u64 = 4294967295;
 
 // The lengths of the slices that are lent beside the table.
-#[derive(Drop)]
+#[derive(Clone, Copy)]
 pub struct Lengths {
     pub pairs: usize,
     pub look: usize,

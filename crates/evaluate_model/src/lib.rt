@@ -3,7 +3,7 @@
 #![tactic(auto)]
 
 // 0 or 1, or the number of the refusal.
-#[derive(Drop)]
+#[derive(Clone, Copy)]
 pub enum Evaluated {
     Value(u8),
     Refused(u32),

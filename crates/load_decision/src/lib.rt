@@ -8,7 +8,7 @@ ghost use Rattle.std.specs.Prelude.{◌≡◌};
 use netlist::{Checked, Role, Summary, check};
 
 // A refusal, or the summaries of two files that are loaded.
-#[derive(Drop)]
+#[derive(Clone, Copy)]
 pub enum Decision {
     Refused { number: u32, file: u32, line: u32 },
     Go(Summary, Summary),

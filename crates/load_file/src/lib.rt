@@ -21,7 +21,7 @@ use netlist_model::{Record, Summary};
 use netlist_records::lines;
 
 // Where the lines that were passed end, and the counts after them.
-#[derive(Drop)]
+#[derive(Clone, Copy)]
 pub struct Passed {
     pub at: usize,
     pub counts: Counts,

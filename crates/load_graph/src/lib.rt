@@ -16,7 +16,7 @@ use load_model::MAX_VERTICES;
 use netlist_model::Operation;
 
 // The vertices so far, and how the ANDs that were asked for ended.
-#[derive(Drop)]
+#[derive(Clone, Copy)]
 pub struct Counts {
     pub vertices: u32,
     pub asked: u32,
@@ -25,14 +25,14 @@ pub struct Counts {
 }
 
 // The literal of what was asked for, and the counts after it.
-#[derive(Drop)]
+#[derive(Clone, Copy)]
 pub struct Asked {
     pub literal: Literal,
     pub counts: Counts,
 }
 
 // How an AND that is asked for ends.
-#[derive(Drop)]
+#[derive(Clone, Copy)]
 pub enum Ended {
     Folded,
     Found,

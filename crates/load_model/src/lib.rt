@@ -14,7 +14,7 @@ pub const MAX_TABLE: usize = table::HEADER
 pub const WORKING_ROOM: usize = 2 * MAX_VERTICES;
 
 // How the ANDs that were asked for ended.
-#[derive(Drop)]
+#[derive(Clone, Copy)]
 pub struct Tally {
     pub asked: u32,
     pub folded: u32,
@@ -22,7 +22,7 @@ pub struct Tally {
     pub made: u32,
 }
 
-#[derive(Drop)]
+#[derive(Clone, Copy)]
 pub enum Loaded {
     Accepted { edition: u32, tally: Tally },
     Refused { number: u32, file: u32, line: u32 },

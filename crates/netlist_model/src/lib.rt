@@ -14,13 +14,13 @@ pub const MAX_GATES: u32 = 4096;
 pub const MAX_NAME: usize = 16;
 
 // Which file of a pair it is: the first, or the second of a pair whose first file has this edition.
-#[derive(Drop)]
+#[derive(Clone, Copy)]
 pub enum Role {
     First,
     Second(u32),
 }
 
-#[derive(Drop)]
+#[derive(Clone, Copy)]
 pub enum Operation {
     And,
     Or,
@@ -28,14 +28,14 @@ pub enum Operation {
 }
 
 // What the op field of a gate line names.
-#[derive(Drop)]
+#[derive(Clone, Copy)]
 pub enum OperationField {
     Named(Operation),
     Unknown,
 }
 
 // What a line is. An input's name is no part of it: it is read again from its line.
-#[derive(Drop)]
+#[derive(Clone, Copy)]
 pub enum Record {
     Header {
         edition: u32,
@@ -56,7 +56,7 @@ pub enum Record {
 
 // The edition and the counts of line 1, how many names it makes due, how many C lines may come, the numbers of names, gates, outputs and C lines
 // read so far, the ANDs that these gates stand for, and the reference that a C line gave, 1 where none has.
-#[derive(Drop)]
+#[derive(Clone, Copy)]
 pub struct Body {
     pub edition: u32,
     pub inputs: u32,
@@ -73,21 +73,21 @@ pub struct Body {
 }
 
 // What is due: line 1 of a file, or a line after it.
-#[derive(Drop)]
+#[derive(Clone, Copy)]
 pub enum Due {
     First(Role),
     Later(Body),
 }
 
 // What one line comes to: what is due next, or the number of a refusal.
-#[derive(Drop)]
+#[derive(Clone, Copy)]
 pub enum Stepped {
     Next(Due),
     Refuse(u32),
 }
 
 // What an accepted file has; `reference` is that of its C line, 1 where there is none, and `start` is where its gate lines start.
-#[derive(Drop)]
+#[derive(Clone, Copy)]
 pub struct Summary {
     pub edition: u32,
     pub inputs: u32,
@@ -99,7 +99,7 @@ pub struct Summary {
     pub start: usize,
 }
 
-#[derive(Drop)]
+#[derive(Clone, Copy)]
 pub enum Checked {
     Accepted(Summary),
     Refused { number: u32, line: u32 },

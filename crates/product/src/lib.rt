@@ -10,7 +10,7 @@ use bdd::references::Ending;
 use bdd_unique::Made;
 
 // How a product ended: its reference, or a limit that it passed; with the rows then used and the steps taken.
-#[derive(Drop)]
+#[derive(Clone, Copy)]
 pub enum Product {
     Done {
         reference: usize,

@@ -2,7 +2,7 @@
 #![tactic(auto)]
 
 // What a reply is called.
-#[derive(Drop)]
+#[derive(Clone, Copy)]
 pub enum Word {
     Equal,
     Different,
@@ -12,7 +12,7 @@ pub enum Word {
 }
 
 // The vertex that a reply names, if any.
-#[derive(Drop)]
+#[derive(Clone, Copy)]
 pub enum Vertex {
     None,
     At(u32),

@@ -31,7 +31,7 @@ const MARK_BEFORE: u8 = 9;
 const SETTING_BEFORE: u8 = b'-';
 
 // Where the slices lent end.
-#[derive(Drop)]
+#[derive(Clone, Copy)]
 struct Ends {
     table: usize,
     pairs: usize,

@@ -6,7 +6,7 @@ use crate::random::draw;
 
 // What is known of a table: its counts, the vertices being those of a comparison; the place of the constraint's word, and that word as loaded;
 // and the first differences on allowed settings and on all.
-#[derive(Drop)]
+#[derive(Clone, Copy)]
 pub struct Facts {
     pub inputs: u32,
     pub outputs: u32,
@@ -18,7 +18,7 @@ pub struct Facts {
 }
 
 // The first difference of each output, a setting or tables::SETTINGS.
-#[derive(Drop)]
+#[derive(Clone, Copy)]
 pub struct Differences {
     pub first: u32,
     pub second: u32,
@@ -26,7 +26,7 @@ pub struct Differences {
 }
 
 // A comparison: the output, the limits, and the number of the refusal that must come, 0 for an answer.
-#[derive(Drop)]
+#[derive(Clone, Copy)]
 pub struct Asked {
     pub output: u32,
     pub size: u32,

@@ -38,7 +38,7 @@ const END: u64 = 0x0a;
 
 // A chain of ANDs over 64 inputs: how many names, by how much these are turned, how many gates, whether the vertex before a gate is inverted, and
 // how many outputs. The names are the numbers from 0 to 63 or, where they are turned by 64 or more, from 1 to 64.
-#[derive(Drop)]
+#[derive(Clone, Copy)]
 struct Chain {
     names: usize,
     turn: usize,

@@ -18,7 +18,7 @@ const TABLE: usize = 12420;
 const SLICE: usize = 12418;
 
 // Where the slices lent end.
-#[derive(Drop)]
+#[derive(Clone, Copy)]
 struct Ends {
     table: usize,
     pairs: usize,

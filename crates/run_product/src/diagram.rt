@@ -12,7 +12,7 @@ use product::Product;
 
 // How far a circuit came: the next vertex and the one to stop at, the rows and the steps; the end is 0 while no product was short, 1 short
 // of rows, 2 short of steps.
-#[derive(Drop)]
+#[derive(Clone, Copy)]
 pub struct Turn {
     pub next: usize,
     pub stop: usize,

@@ -2,7 +2,7 @@
 #![tactic(auto)]
 
 // Why a comparison is undecided; Rows and Steps name the vertex at which the limit was passed.
-#[derive(Drop)]
+#[derive(Clone, Copy)]
 pub enum Cause {
     Size,
     Rows(u32),
@@ -10,14 +10,14 @@ pub enum Cause {
 }
 
 // The rows in use, the product steps taken, and the rows that a product which broke off had added: those were given back.
-#[derive(Drop)]
+#[derive(Clone, Copy)]
 pub struct Counts {
     pub rows: u32,
     pub steps: u32,
     pub added: u32,
 }
 
-#[derive(Drop)]
+#[derive(Clone, Copy)]
 pub enum Reply {
     Equal(Counts),
     Different(Counts),

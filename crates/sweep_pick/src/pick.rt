@@ -5,7 +5,7 @@ ghost use Rattle.sweep_pick.specs.code.Pick.{Within, least_from, lesser, pick_he
 use sweep_graph::stage::waits;
 use sweep_graph::words::{first_word, second_word};
 
-#[derive(Drop)]
+#[derive(Clone, Copy)]
 pub enum Picked {
     At(u32),
     None,

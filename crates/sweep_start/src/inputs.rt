@@ -8,7 +8,7 @@ use sweep_draw::draw::draw;
 use sweep_state::task::Task;
 
 // The rows then used, or no row is left.
-#[derive(Drop)]
+#[derive(Clone, Copy)]
 pub enum Given {
     Row(usize),
     Full,
@@ -41,7 +41,7 @@ fn give_row(
 }
 
 // The rows then used; or the input at which the row limit was passed, and the rows used.
-#[derive(Drop)]
+#[derive(Clone, Copy)]
 pub enum Inputs {
     All(usize),
     Short(u32, usize),

@@ -2,7 +2,7 @@
 use sweep_model::Cause;
 
 // One literal or one function; inverse literals; the references of two functions; or it is undecided.
-#[derive(Drop)]
+#[derive(Clone, Copy)]
 pub enum End {
     Equal,
     Inverse,
@@ -11,14 +11,14 @@ pub enum End {
 }
 
 // How the sweep ends, or nothing is decided.
-#[derive(Drop)]
+#[derive(Clone, Copy)]
 pub enum Seen {
     Decided(End),
     Nothing,
 }
 
 // How a sweep ended, the rows used, the steps taken, and the rows that a product which broke off had added.
-#[derive(Drop)]
+#[derive(Clone, Copy)]
 pub struct Ended {
     pub end: End,
     pub used: usize,

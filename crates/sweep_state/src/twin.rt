@@ -1,6 +1,6 @@
 // The vertex that has a function or its inverse.
 
-#[derive(Drop)]
+#[derive(Clone, Copy)]
 pub enum Twin {
     At(u32),
     None,

@@ -14,7 +14,7 @@ use sweep_state::task::Task;
 
 // What was seen after a product that is done, or the limit that was passed and the rows that the product had added; with the rows then used and
 // the steps taken.
-#[derive(Drop)]
+#[derive(Clone, Copy)]
 pub enum Step {
     Looked {
         seen: Seen,

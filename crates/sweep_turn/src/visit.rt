@@ -14,7 +14,7 @@ use sweep_state::task::Task;
 use sweep_step::multiply::{Step, multiply};
 
 // The sweep goes on, with the rows then used and the steps taken, or has ended.
-#[derive(Drop)]
+#[derive(Clone, Copy)]
 pub enum Going {
     On { used: usize, steps: usize },
     Ended(Ended),

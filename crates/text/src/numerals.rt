@@ -5,7 +5,7 @@ ghost use Rattle.text.specs.Numerals.{MAX_DIGITS, digits_from, leading_zero, num
 const MAX_DIGITS: usize = 6;
 
 // What a part reads as.
-#[derive(Drop)]
+#[derive(Clone, Copy)]
 pub enum Numeral {
     Value(u32),
     Malformed,

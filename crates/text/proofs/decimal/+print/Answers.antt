@@ -1,0 +1,44 @@
+use Prim.Native.Nat.{ℕ}
+use Rattle.text.proofs.DecimalSteps.{digit-fits, last_fits, stored-digit, stored_more, tenth_fits}
+use borrow.Author.Rules.{rules}
+use native.Mathlib.Omega.{arith}
+use Rattle.text.proofs.decimal.+print.Goals as goal
+
+pub bounds-out-at : goal.bounds-out-at
+bounds-out-at t c =
+    digit-fits c.args.out.now c.args.at c.args.n c.requires c.if-n-lt10.true
+
+pub overflow_add-result : goal.overflow_add-result
+overflow_add-result t c = omega (arith, bounds-out-at t c)
+
+-- SETTLED? Need-same-length
+-- print_same_length : (t : ℕ) → print-lts.Need-same-length (callees t) (print_at t) print.Post
+-- print_same_length t c = search rules
+
+pub returns-then-n-lt10 : goal.returns-then-n-lt10
+returns-then-n-lt10 t c =
+    let a = c.args in
+    stored-digit a.out.now a.at a.n c.requires c.if-n-lt10.true c.digit.result c.digit.ensures
+
+pub print-last-requires : goal.print-last-requires
+print-last-requires t c =
+    let a = c.args in
+    (omega arith, omega (arith, tenth_fits a.out.now a.at a.n c.requires c.if-n-lt10.false))
+
+pub bounds-out-last : goal.bounds-out-last
+bounds-out-last t c =
+    let a = c.args in
+    last_fits a.out.now a.at a.n c.requires c.if-n-lt10.false c.print-last.ensures
+
+pub overflow_add-result-2 : goal.overflow_add-result-2
+overflow_add-result-2 t c = omega (arith, bounds-out-last t c)
+
+-- SETTLED? Need-same-length-2
+-- print_same_length_2 : (t : ℕ) → print-lts.Need-same-length-2 (callees t) (print_at t) print.Post
+-- print_same_length_2 t c = search rules
+
+pub returns : goal.returns
+returns t c =
+    let a = c.args in
+    stored_more a.out.now a.at a.n c.requires c.if-n-lt10.false c.print-last.ensures
+    c.digit-2.result c.digit-2.ensures
