@@ -11,10 +11,6 @@ bounds-out-at t c =
 pub overflow_add-result : goal.overflow_add-result
 overflow_add-result t c = omega (arith, bounds-out-at t c)
 
--- SETTLED? Need-same-length
--- print_same_length : (t : ℕ) → print-lts.Need-same-length (callees t) (print_at t) print.Post
--- print_same_length t c = search rules
-
 pub returns-then-n-lt10 : goal.returns-then-n-lt10
 returns-then-n-lt10 t c =
     let a = c.args in
@@ -32,10 +28,6 @@ bounds-out-last t c =
 
 pub overflow_add-result-2 : goal.overflow_add-result-2
 overflow_add-result-2 t c = omega (arith, bounds-out-last t c)
-
--- SETTLED? Need-same-length-2
--- print_same_length_2 : (t : ℕ) → print-lts.Need-same-length-2 (callees t) (print_at t) print.Post
--- print_same_length_2 t c = search rules
 
 pub returns : goal.returns
 returns t c =

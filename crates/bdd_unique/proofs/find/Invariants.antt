@@ -1,0 +1,10 @@
+-- The invariant: no row above i holds the level and the edges, and row i is of their bucket.
+-- The measure: i, since a chain goes to lower rows.
+use Rattle.bdd_unique.proofs.ChainLaws.{Walk}
+use Rattle.bdd_unique.proofs.find.Given as goal
+
+abbrev pub invariant-loop-i : goal.invariant-loop-i
+invariant-loop-i l = Walk l.rows l.limit l.used l.level l.low l.high l.i
+
+abbrev pub decreases-loop-i : goal.decreases-loop-i
+decreases-loop-i l = l.i

@@ -1,0 +1,49 @@
+-- The rows are copied in, the task is made, the sweep runs in the front of the pairs and of the marks; no loop.
+-- One law says that the sweep can be asked, one what its end says.
+use Prim.Native.Nat.{◌*◌}
+use Rattle.comparer.proofs.RunLaws.{asked, lent-long, posed-few, ran}
+use Rattle.sweep_state.specs.code.Meet.{Workspace, workspace}
+use Rattle.sweep_state.specs.code.Arrays.{arrays}
+use borrow.Author.Rules.{rules}
+use lib.Seq.{length-take-le}
+use mathlib.Core.Path.{sym}
+use native.Mathlib.Omega.{arith}
+use Rattle.comparer.proofs.work.run.Goals as goal
+
+pub slice_bounds-sweep-end : goal.slice_bounds-sweep-end
+slice_bounds-sweep-end c =
+    let a = c.args in
+    lent-long a.table.now a.output a.limits c.requires.accepted c.requires.known c.requires.within c.task_of-task.result c.task_of-task.ensures
+    a.pairs.now c.copy_in.new.pairs.0 c.copy_in.ensures
+
+pub slice_bounds-sweep-end-2 : goal.slice_bounds-sweep-end-2
+slice_bounds-sweep-end-2 c =
+    let a = c.args in
+    sym
+    (length-take-le (2 * c.task_of-task.result.count) c.copy_in.new.pairs.0
+    (lent-long a.table.now a.output a.limits c.requires.accepted c.requires.known c.requires.within c.task_of-task.result c.task_of-task.ensures
+    a.pairs.now c.copy_in.new.pairs.0 c.copy_in.ensures))
+
+pub slice_bounds-sweep-end-3 : goal.slice_bounds-sweep-end-3
+slice_bounds-sweep-end-3 c =
+    omega (arith, posed-few c.task_of-task.ensures, c.requires.room.marked)
+
+pub slice_bounds-sweep-end-4 : goal.slice_bounds-sweep-end-4
+slice_bounds-sweep-end-4 c =
+    sym (length-take-le c.task_of-task.result.count c.args.marks.now (omega (arith, posed-few c.task_of-task.ensures, c.requires.room.marked)))
+
+pub sweep-requires : goal.sweep-requires
+sweep-requires c =
+    let a = c.args in
+    asked a.table.now a.output a.limits c.requires.accepted c.requires.known c.requires.within c.task_of-task.result c.task_of-task.ensures
+    a.pairs.now c.copy_in.new.pairs.0 c.copy_in.ensures a.pairs.now a.look.now a.diagrams.now a.stages.now a.rows.now a.marks.now
+    c.requires.room
+
+pub returns : goal.returns
+returns c setting =
+    let a = c.args in
+    let l = c.sweep.new in
+    let after : Workspace = workspace l.0 (arrays l.1.1.0 l.1.1.1.0 l.1.1.1.1.0 l.1.1.1.1.1.0) in
+    ran a.table.now a.output a.limits c.requires.accepted c.requires.known c.requires.within c.task_of-task.result c.task_of-task.ensures
+    a.pairs.now c.copy_in.new.pairs.0 c.copy_in.ensures a.pairs.now a.look.now a.diagrams.now a.stages.now a.rows.now a.marks.now
+    c.requires.room setting.entry.now after c.sweep.result c.sweep.ensures c.sweep.auto.1.1.1.1.1.0

@@ -1,0 +1,14 @@
+-- Each return is one edition; no loop.
+-- What is written is what the call that was made writes.
+use Rattle.load_model.specs.code.Paired.{second_literals}
+use borrow.Author.Rules.{rules}
+use borrow.Author.Tests.{eq-eqb, ne_eqb}
+use Rattle.load_inputs.proofs.write_second.Goals as goal
+
+pub returns-then-edition-eq-BY_NAME : goal.returns-then-edition-eq-BY_NAME
+unfolding second_literals
+returns-then-edition-eq-BY_NAME c = rw (eq-eqb _ _ c.if-edition-eq-BY_NAME.true) c.write_by_name.ensures
+
+pub returns : goal.returns
+unfolding second_literals
+returns c = rw (ne_eqb _ _ c.if-edition-eq-BY_NAME.false) c.write_by_place.ensures

@@ -1,0 +1,15 @@
+-- The field is read; no loop.
+-- The number of fields is known.
+use Rattle.netlist_model.specs.Records.{constraint_of}
+use Rattle.text.specs.Numerals.{numeral_of}
+use borrow.Author.Rules.{rules}
+use mathlib.Core.Path.{◌∙◌, ap, sym}
+use Rattle.netlist_records.proofs.records.read_constraint.Goals as goal
+
+pub returns-in-Value : goal.returns-in-Value
+returns-in-Value c =
+    sym (ap constraint_of (ap numeral_of (sym c.part.ensures) ∙ sym c.parse.ensures ∙ c.in-Value.is))
+
+pub returns-in-Malformed : goal.returns-in-Malformed
+returns-in-Malformed c =
+    sym (ap constraint_of (ap numeral_of (sym c.part.ensures) ∙ sym c.parse.ensures ∙ c.in-Malformed.is))

@@ -1,0 +1,19 @@
+-- Each reply has its own line, by what the match tells of it.
+-- There is no loop.
+use Rattle.reply_line.proofs.LineLaws.{undecided_line, undecided-room}
+use borrow.Author.Rules.{rules}
+use mathlib.Core.Path.{sym}
+use Rattle.reply_line.proofs.write_line.Goals as goal
+
+pub returns-in-Equal : goal.returns-in-Equal
+returns-in-Equal c = rw c.in-Equal.is c.write_reply.ensures
+
+pub returns-in-Different : goal.returns-in-Different
+returns-in-Different c = rw c.in-Different.is c.write_reply-in-Different.ensures
+
+pub returns-in-Undecided : goal.returns-in-Undecided
+returns-in-Undecided c =
+    rw (c.in-Undecided.is, undecided_line, undecided-room, sym c.word_of.ensures, sym c.vertex_of.ensures) c.write_reply-in-Undecided.ensures
+
+pub returns-in-Refused : goal.returns-in-Refused
+returns-in-Refused c = rw c.in-Refused.is c.write_refused.ensures

@@ -1,0 +1,14 @@
+-- The whole line is one byte string.
+-- There is no loop.
+use Rattle.report_format.proofs.LineLaws.{printed_line, printed-none}
+use Rattle.report_format.specs.Report.{LINE_ROOM, head_line}
+use borrow.Author.Rules.{rules}
+use native.Mathlib.Omega.{arith}
+use Rattle.report.proofs.write_head.Goals as goal
+
+pub returns-then-out-lt-LINE_ROOM : goal.returns-then-out-lt-LINE_ROOM
+returns-then-out-lt-LINE_ROOM c = printed-none c.if-out-lt-LINE_ROOM.true
+
+pub returns : goal.returns
+unfolding head_line
+returns c = printed_line {r = LINE_ROOM} (omega arith) c.if-out-lt-LINE_ROOM.false (record { stored = c.put.ensures; short = omega arith })

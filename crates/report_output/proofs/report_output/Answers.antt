@@ -1,0 +1,85 @@
+-- A comparison, and its line; no loop.
+-- What the comparison left is what the next one is given, and the line of its reply is its line.
+use Rattle.compare_model.specs.Compare.{Given}
+use Rattle.comparer.specs.Lent.{holding}
+use Rattle.report_output.proofs.ComparedLaws.{compared-next, compared-stored, same-room}
+use Rattle.report_output.specs.code.Slices.{asked}
+use lib.Seq.{length-take-le}
+use mathlib.Core.Path.{sym}
+use native.Mathlib.Omega.{arith}
+use Rattle.report_output.proofs.report_output.Goals as goal
+
+pub inputs-inputs-requires : goal.inputs-inputs-requires
+inputs-inputs-requires c = c.requires.ready.accepted.formed
+
+pub slice_bounds-put_line-end : goal.slice_bounds-put_line-end
+slice_bounds-put_line-end c =
+    omega (arith, c.inputs-inputs.ensures, c.requires.ready.accepted.formed.inputs, c.requires.ready.room, c.setting-1.given)
+
+pub slice_bounds-put_line-end-2 : goal.slice_bounds-put_line-end-2
+slice_bounds-put_line-end-2 c =
+    let inputs = c.inputs-inputs in
+    sym
+    (length-take-le inputs.result c.compare-reply.new.setting.0
+    (omega (arith, inputs.ensures, c.requires.ready.accepted.formed.inputs, c.requires.ready.room, c.setting-1.given)))
+
+pub put_line-requires : goal.put_line-requires
+put_line-requires c =
+    let inputs = c.inputs-inputs in
+    let within = c.requires.ready.accepted.formed.inputs in
+    let front =
+    length-take-le inputs.result c.compare-reply.new.setting.0
+    (omega (arith, inputs.ensures, within, c.requires.ready.room, c.setting-1.given)) in
+    omega (arith, inputs.ensures, front, within, c.requires.reply_room_in_bounds)
+
+-- SETTLED? Need-same-length
+-- same_length : tie.Need-same-length
+-- same_length c = c.before.out.given
+
+-- SETTLED? Need-same-length-2
+-- same-length-2 : tie.Need-same-length-2
+-- same-length-2 c = c.before.before.before.before.before.before.before.before.before.before.before.before.before.before.before.before.before.before.before.before.table.given
+
+-- SETTLED? Need-same-length-3
+-- same-length-3 : tie.Need-same-length-3
+-- same-length-3 c = c.before.before.before.before.before.before.before.before.before.before.before.before.before.before.before.before.before.before.pairs.given
+
+-- SETTLED? Need-same-length-4
+-- same-length-4 : tie.Need-same-length-4
+-- same-length-4 c = c.before.before.before.before.before.before.before.before.before.before.before.before.before.before.before.before.look.given
+
+-- SETTLED? Need-same-length-5
+-- same-length-5 : tie.Need-same-length-5
+-- same-length-5 c = c.before.before.before.before.before.before.before.before.before.before.before.before.before.before.diagrams.given
+
+-- SETTLED? Need-same-length-6
+-- same-length-6 : tie.Need-same-length-6
+-- same-length-6 c = c.before.before.before.before.before.before.before.before.before.before.before.before.stages.given
+
+-- SETTLED? Need-same-length-7
+-- same-length-7 : tie.Need-same-length-7
+-- same-length-7 c = c.before.before.before.before.before.before.before.before.before.before.rows.given
+
+-- SETTLED? Need-same-length-8
+-- same-length-8 : tie.Need-same-length-8
+-- same-length-8 c = c.before.before.before.before.before.before.before.before.marks.given
+
+-- SETTLED? Need-same-length-9
+-- same-length-9 : tie.Need-same-length-9
+-- same-length-9 c = c.before.before.before.before.before.before.setting.given
+
+pub returns : goal.returns
+returns c =
+    let inputs = c.inputs-inputs in
+    let call = c.compare-reply in
+    let a = c.args in
+    let g : Given = asked a.output (holding a.table.now a.pairs.now a.look.now a.diagrams.now a.stages.now a.rows.now a.marks.now a.setting.now) in
+    let within = c.requires.ready.accepted.formed.inputs in
+    let table-left = call.new.0 in
+    let marks-left = call.new.1.1.1.1.1.1.1.1.0 in
+    let setting-left = call.new.1.1.1.1.1.1.1.1.1.0 in record {
+      stored_within = compared-stored g call.result table-left marks-left setting-left call.ensures.result a.edition within (omega (arith, within, c.requires.ready.room, c.setting-1.given))
+          (rw inputs.ensures at c.put_line.ensures);
+      left_to_next = compared-next g call.result table-left marks-left setting-left call.ensures.result _
+          (same-room c.pairs-1.given c.look-1.given c.diagrams-1.given c.stages-1.given c.rows-1.given);
+    }
