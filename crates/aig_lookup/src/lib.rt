@@ -1,5 +1,6 @@
 // The look-up of vertices by their pairs (structural hashing), in a lent slice of two words a vertex: `places` heads, then `places` next words.
 #![tactic(auto)]
+
 ghost use Rattle.std.specs.Prelude.{◌≡◌, ◌+◌, ◌*◌, ◌<◌, ◌≤◌, length, ◌≢◌};
 ghost use Rattle.aig.specs.Lookup.{Indexed, cleared, entered, first_place, first_vertex, has_pair};
 

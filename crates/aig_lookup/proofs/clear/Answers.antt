@@ -1,4 +1,4 @@
-use Rattle.std.proofs.Common.{◌≡◌, ℕ, ◌-◌, ◌<◌, List, length, set, refl, ap, ◌∙◌, arith, length-set, rules}
+use Rattle.std.proofs.Common.{◌≡◌, ℕ, ◌<◌, List, length, set, refl, ap, ◌∙◌, arith, length-set, rules}
 use borrow.Author.Fill.{fill_more}
 use Rattle.aig_lookup.proofs.clear.Goals as goal
 

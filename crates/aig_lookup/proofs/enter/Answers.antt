@@ -1,5 +1,5 @@
 -- Two stores, in the order of the definition; no loop.
-use Rattle.std.proofs.Common.{arith, length-set, rules}
+use Rattle.std.proofs.Common.{arith, length-set}
 use Rattle.aig_lookup.proofs.enter.Goals as goal
 
 pub bounds-look-place-2 : goal.bounds-look-place-2
