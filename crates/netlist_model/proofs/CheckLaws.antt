@@ -25,7 +25,7 @@ use borrow.Author.Tests.{eq-eqb, eqb-true}
 use lib.ListN.{get_or, length}
 use mathlib.Core.Bool.{true}
 use mathlib.Core.List.{List, [], ◌++◌, ◌∷◌, append_assoc, append-nil, map}
-use mathlib.Core.Logic.{◌⊎◌, ⊎_elim}
+use mathlib.Core.Logic.{⊎_elim}
 use mathlib.Core.Path.{◌∙◌, ◌≡◌, ap, refl, sym}
 use native.Mathlib.Omega.{arith}
 

@@ -17,7 +17,7 @@ use lib.ListN.{get_or-append, get_or-eq_default, get_or, length, length-append, 
 use lib.Seq.{get_or_at}
 use mathlib.Core.Bool.{◌&&◌, false, not}
 use mathlib.Core.List.{List, [], ◌++◌, ◌∷◌, map}
-use mathlib.Core.Logic.{◌⊎◌, ⊎_elim}
+use mathlib.Core.Logic.{⊎_elim}
 use mathlib.Core.Path.{◌∙◌, ◌≡◌, ap, ap₂, refl, subst, sym}
 use native.Mathlib.Decide.{dec_lt}
 use native.Mathlib.Omega.{arith}
@@ -123,12 +123,16 @@ module _ {d e : Netlist} (m : Matched d e) where
     pub alike_results : (operation : Operation → A → A → A) {us vs : List A} → Alike falsum us vs → (gs : List Gate)
         → Alike falsum (vertex_results inverse both falsum operation us gs) (vertex_results inverse both falsum operation vs (map (gate_for d e) gs))
     unfolding vertex_results
-    alike_results operation a [] = a
-    alike_results operation {us = us} {vs = vs} a (g ∷ gs) =
-        alike_results operation
-        (subst (λ (y : A). Alike falsum (us ++ gate_result inverse both falsum operation us g ∷ []) (vs ++ y ∷ []))
-        (ap₂ (operation g.op) (alike-reference a g.p) (alike-reference a g.q))
-        (alike_next a (gate_result inverse both falsum operation us g))) gs
+    alike_results operation {us = us} {vs = vs} a gs = go us vs a gs
+      where
+        go : (us vs : List A) → Alike falsum us vs → (gs : List Gate)
+            → Alike falsum (vertex_results inverse both falsum operation us gs) (vertex_results inverse both falsum operation vs (map (gate_for d e) gs))
+        go us vs a [] = a
+        go us vs a (g ∷ gs) =
+            go (us ++ gate_result inverse both falsum operation us g ∷ []) (vs ++ gate_result inverse both falsum operation vs (gate_for d e g) ∷ [])
+            (subst (λ (y : A). Alike falsum (us ++ gate_result inverse both falsum operation us g ∷ []) (vs ++ y ∷ []))
+            (ap₂ (operation g.op) (alike-reference a g.p) (alike-reference a g.q))
+            (alike_next a (gate_result inverse both falsum operation us g))) gs
 
   -- The digits of a setting.
   setting-named : (s : Setting) → e.edition ≡ 2 → setting_by_name d e s ≡ map (λ (name : List ℕ). get_or s (place_of name d.names) false) e.names
@@ -197,8 +201,11 @@ module _ {d e : Netlist} (m : Matched d e) where
       netlist.Downward.gate (reference-below g.p v h p) (reference-below g.q v h q) (gates-downward w (omega arith))
 
   references-below : (v : ℕ) {rs : List ℕ} → 1 + e.inputs ≤ v → AllBelow (2 * v) rs → AllBelow (2 * v) (map (reference_for d e) rs)
-  references-below v h netlist.AllBelow.none = netlist.AllBelow.none
-  references-below v h (netlist.AllBelow.next {r = r} l b) = netlist.AllBelow.next (reference-below r v h l) (references-below v h b)
+  references-below v {rs = rs} h b = go (2 * v) rs refl b
+    where
+      go : (n : ℕ) (rs : List ℕ) → n ≡ 2 * v → AllBelow n rs → AllBelow (2 * v) (map (reference_for d e) rs)
+      go n [] q netlist.AllBelow.none = netlist.AllBelow.none
+      go n (r ∷ rs) q (netlist.AllBelow.next l b) = netlist.AllBelow.next (reference-below r v h (omega (arith, l, q))) (go n rs q b)
 
   -- The file with its inputs in the first file's order keeps the limits.
   pub paired-within : Within (paired d e)
