@@ -165,7 +165,11 @@ picks p (x ∷ stages) k = go (waits? x) refl (pick_from p (suc k) stages) (pick
     go : (b : Bool) → waits? x ≡ b → (o : Candidate) → Picks p (suc k) stages o → Picks p k (x ∷ stages) (cond b (at (smaller p k o)) o)
     go true e o s = less e o s
     go false e (at w) s = later-least p x stages k w s (λ h. clash h e)
-    go false e none s = λ i. elim i [ zero ↦ e | suc j ↦ s j ]
+    go false e none s = none_waits
+      where
+        none_waits : (i : ℕ) → waits? (stage_of (x ∷ stages) i) ≡ false
+        none_waits zero = e
+        none_waits (suc j) = s j
 
 -- "The waiting vertex of least size opens, lowest number on a tie.": a vertex that is picked is that one.
 pub pick_least : (p : Problem) (stages : List Stage) (v : ℕ) → pick_from p 0 stages ≡ at v → Opens p stages v

@@ -14,7 +14,7 @@ use Rattle.sweep_model.proofs.Stages.{bare_not_gone, bare-wake, dropped-lacks, g
 use Rattle.sweep_model.proofs.Steady.{alive_unmerged, alive_within, begin-giving, begin-steady, dropped-steady, due_alive, due-within, input_row, opened-steady, opened_at, swept-steady}
 use Rattle.sweep_model.proofs.Takes.{Fate, left_alone, woken}
 use Rattle.sweep_model.proofs.Tidy.{first-unmerged, still-merged}
-use Rattle.sweep_model.specs.Claims.{and_steps, marked}
+use Rattle.sweep_model.specs.Claims.{and_steps}
 use Rattle.sweep_model.specs.Fit.{Fit, vertex_count}
 use Rattle.sweep_model.specs.Normalise.{normalise, wake, was_merged?}
 use Rattle.sweep_model.specs.code.Reachable.{Accounted, Apart, InputsMarked, Reachable, StageFits}
@@ -23,7 +23,6 @@ use Rattle.sweep_model.specs.code.Steady.{Due, Giving, Steady, product_of}
 use Rattle.sweep_model.specs.Sweep.{at, begin, drop_vertex, meet, none, swept, twin_from}
 use Rattle.truth.proofs.Booleans.{clash, not_true}
 use Rattle.truth.proofs.Parts.{alike_sameness, parts-constant}
-use Rattle.truth.specs.Distinct.{apart}
 use Rattle.truth.specs.Parts.{alike?, parts, size}
 use borrow.Author.Tests.{ltb-false, ltb-true}
 use lib.Dec.{ltb}

@@ -14,7 +14,7 @@ use Rattle.sweep_model.proofs.SomeDropped.{rest-dropped, sweep-rests}
 use Rattle.sweep_model.proofs.Stages.{has_not_gone}
 use Rattle.sweep_model.proofs.Steady.{alive_within}
 use Rattle.sweep_model.proofs.Tidy.{made-merged}
-use Rattle.sweep_model.specs.Claims.{And, Names, and_steps, ands_of, is, is_either, marked, rows_marked, rows_marked_with_last, steps_marked_with_last, sum}
+use Rattle.sweep_model.specs.Claims.{And, Names, and_steps, ands_of, is, is_either, rows_marked, rows_marked_with_last, steps_marked_with_last, sum}
 use Rattle.sweep_model.specs.Fit.{Fit, vertex_count}
 use Rattle.sweep_model.specs.Normalise.{merged?, was_merged?}
 use Rattle.sweep_model.specs.code.Reachable.{InputsMarked}

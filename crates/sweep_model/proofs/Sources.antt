@@ -16,7 +16,7 @@ use Rattle.sweep_model.specs.Fit.{Fit, vertex_count}
 use Rattle.sweep_model.specs.Normalise.{normalise, resolve, was_merged?}
 use Rattle.sweep_model.specs.State.{Problem, Stage, State, dropped, gone, gone?, has?, opened, stage_of, waiting, waits?, with_book}
 use Rattle.sweep_model.specs.code.Steady.{Moves, Steady}
-use Rattle.sweep_model.specs.Sweep.{at, begin, drop_vertex, given_back, swept}
+use Rattle.sweep_model.specs.Sweep.{begin, drop_vertex, given_back, swept}
 use Rattle.truth.proofs.Booleans.{bool_cases, clash, or_cases, or_left}
 use lib.ListN.{get_or, length, set}
 use lib.Seq.{get_or-set_other, get_or-set_same}
