@@ -1,6 +1,5 @@
 -- Each return is one case of the three fields; no loop.
 -- The last has read all of them.
-use borrow.Author.Rules.{rules}
 use mathlib.Core.Path.{refl}
 use Rattle.netlist_records.proofs.records.gate_of.Goals as goal
 

@@ -1,7 +1,5 @@
-use Prim.Native.Nat.{◌-◌}
 use Rattle.netlist_records.proofs.NameSteps.{letters_broken, letters_ended, letters_next}
 use borrow.Author.Rules.{rules}
-use borrow.Author.Tests.{not-false, not-true}
 use mathlib.Core.Path.{◌∙◌, refl, sym}
 use Rattle.netlist_records.proofs.records.has_letters_and_digits.Goals as goal
 
@@ -12,13 +10,13 @@ pub returns-then-not-is_letter_or_digit : goal.returns-then-not-is_letter_or_dig
 returns-then-not-is_letter_or_digit c =
     let l = c.loop-i in
     let field = c.args.field.now in
-    sym (l.invariant.1 ∙ letters_broken field l.i (search rules) (sym c.is_letter_or_digit.ensures ∙ not-true _ c.if-not-is_letter_or_digit.true))
+    sym (l.invariant.1 ∙ letters_broken field l.i (search rules) (sym c.is_letter_or_digit.ensures ∙ c.if-not-is_letter_or_digit.true))
 
 pub loop-i-preserved : goal.loop-i-preserved
 loop-i-preserved c =
     let l = c.loop-i in
     let field = c.args.field.now in
-    (search rules, l.invariant.1 ∙ letters_next field l.i (search rules) (sym c.is_letter_or_digit.ensures ∙ not-false _ c.if-not-is_letter_or_digit.false))
+    (search rules, l.invariant.1 ∙ letters_next field l.i (search rules) (sym c.is_letter_or_digit.ensures ∙ c.if-not-is_letter_or_digit.false))
 
 pub returns : goal.returns
 returns c =

@@ -2,7 +2,6 @@
 -- The number of fields is known.
 use Rattle.netlist_model.specs.Records.{output_of}
 use Rattle.text.specs.Numerals.{numeral_of}
-use borrow.Author.Rules.{rules}
 use mathlib.Core.Path.{◌∙◌, ap, sym}
 use Rattle.netlist_records.proofs.records.read_output.Goals as goal
 

@@ -3,7 +3,6 @@
 use Rattle.netlist_model.proofs.RecordLaws.{laid_out-count}
 use Rattle.netlist_model.specs.Records.{fields_record, record_of}
 use Rattle.text.specs.Split.{split_at}
-use borrow.Author.Rules.{rules}
 use mathlib.Core.List.{[], ◌∷◌}
 use mathlib.Core.Path.{◌∙◌, refl, sym}
 use Rattle.netlist_records.proofs.records.read_record.Goals as goal
@@ -13,7 +12,7 @@ read_header-requires c = laid_out-count 5 (78 ∷ []) (split_at 9 c.args.line.no
 
 pub returns-then-is_laid_out : goal.returns-then-is_laid_out
 unfolding record_of fields_record
-returns-then-is_laid_out c = let at1 = c in rw (sym at1.before.is-laid-out.ensures ∙ at1.if1.true) c.read_header.ensures
+returns-then-is_laid_out c = rw (sym c.is_laid_out.ensures ∙ c.if-is_laid_out.true) c.read_header.ensures
 
 pub read_name-requires : goal.read_name-requires
 read_name-requires c =
