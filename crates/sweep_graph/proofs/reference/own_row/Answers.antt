@@ -2,7 +2,6 @@
 -- Any other is set by the call.
 use Rattle.bdd.specs.code.Owners.{with_owner}
 use Rattle.bdd.specs.code.Rows.{put}
-use borrow.Author.Rules.{rules}
 use mathlib.Core.Path.{refl}
 use Rattle.sweep_graph.proofs.reference.own_row.Goals as goal
 
