@@ -1,5 +1,6 @@
 // The unique table: rows found or added in chains, and given back in reverse order of making.
 #![tactic(auto)]
+
 ghost use Rattle.std.specs.Prelude.{◌*◌, ◌+◌, ◌-◌, ◌<◌, ◌^◌, ◌≤◌, length, false, true, ◌≡◌};
 ghost use Rattle.bdd.specs.Diagram.{Reference};
 ghost use Rattle.bdd.specs.code.Rows.{MARK};

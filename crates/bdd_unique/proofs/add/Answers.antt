@@ -1,7 +1,6 @@
 -- The four words, the head read before any is written.
 -- No loop.
 use Rattle.bdd_unique.proofs.ChainLaws.{added-words}
-use borrow.Author.Rules.{rules}
 use Rattle.bdd_unique.proofs.add.Goals as goal
 
 pub returns : goal.returns

@@ -2,7 +2,6 @@
 -- No loop.
 use Prim.Native.Nat.{◌*◌, ◌+◌}
 use Rattle.bdd.specs.code.Store.{bucket}
-use borrow.Author.Rules.{rules}
 use mathlib.Core.Path.{refl}
 use native.Mathlib.Nat.{mod-lt}
 use native.Mathlib.Omega.{arith}

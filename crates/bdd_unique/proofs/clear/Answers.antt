@@ -1,4 +1,3 @@
-use Prim.Native.Nat.{◌-◌}
 use Rattle.bdd_unique.proofs.ChainLaws.{cleared, emptying_begins, emptying_on}
 use mathlib.Core.Path.{◌≡◌}
 use native.Mathlib.Omega.{arith}
@@ -23,10 +22,6 @@ pub loop-i-preserved : goal.loop-i-preserved
 loop-i-preserved c =
     let a = c.args in
     emptying_on a.rows.now c.loop-i.rows a.limit c.loop-i.i c.loop-i.invariant c.loop-i-test.true c.put_word.new.rows c.put_word.ensures
-
--- SETTLED? Need-same-length
--- same_length : tie.Need-same-length invariant_loop decreases_loop
--- same_length c = c.before.loop.invariant.long
 
 pub returns : goal.returns
 returns c =

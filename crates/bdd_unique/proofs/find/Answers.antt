@@ -6,13 +6,12 @@ pub returns-then-used-eq0 : goal.returns-then-used-eq0
 returns-then-used-eq0 c = record { found = λ h. absurd (omega arith); absent = λ e i pos le I. absurd (omega (arith, c.if-used-eq0.true)) }
 
 pub bucket_of-b-requires : goal.bucket_of-b-requires
-bucket_of-b-requires c =
-    (
-      omega (arith, c.if-used-eq0.false, c.requires.store.room.used),
-      omega (arith, c.requires.row.small),
-      omega (arith, c.requires.row.low-stored, c.requires.store.room.used, c.requires.store.room.small),
-      omega (arith, c.requires.row.high-stored, c.requires.store.room.used, c.requires.store.room.small),
-    )
+bucket_of-b-requires c = (
+  omega (arith, c.if-used-eq0.false, c.requires.store.room.used),
+  omega (arith, c.requires.row.small),
+  omega (arith, c.requires.row.low-stored, c.requires.store.room.used, c.requires.store.room.small),
+  omega (arith, c.requires.row.high-stored, c.requires.store.room.used, c.requires.store.room.small),
+)
 
 pub head_of-i-requires : goal.head_of-i-requires
 head_of-i-requires c = omega (arith, c.bucket_of-b.ensures.1, c.requires.store.room.long)

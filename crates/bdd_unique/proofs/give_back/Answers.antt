@@ -21,10 +21,6 @@ loop-i-preserved c =
     let a = c.args in
     returning_on a.rows.now a.limit a.used a.kept c.loop-i.rows c.loop-i.i c.loop-i.invariant (omega (arith, c.loop-i-test.true)) c.unlink.new.rows c.unlink.ensures
 
--- SETTLED? Need-same-length
--- same_length : tie.Need-same-length invariant_loop decreases_loop
--- same_length c = c.before.loop.invariant.long
-
 pub returns : goal.returns
 returns c =
     let a = c.args in

@@ -4,7 +4,6 @@ use Prim.Native.Nat.{suc}
 use Rattle.bdd.specs.code.Rows.{put}
 use Rattle.bdd_unique.proofs.ChainLaws.{bucket-fields}
 use Rattle.bdd_unique.specs.code.Unique.{unlinked}
-use borrow.Author.Rules.{rules}
 use mathlib.Core.Path.{◌∙◌, ap, ap₂}
 use native.Mathlib.Numerals.{add-one}
 use native.Mathlib.Omega.{arith}
