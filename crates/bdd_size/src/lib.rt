@@ -1,5 +1,6 @@
 // The size of a diagram: the rows reached from a reference, each counted once. A first pass marks and counts them, a second wipes the marks.
 #![tactic(auto)]
+
 ghost use Rattle.std.specs.Prelude.{◌*◌, ◌/◌, ◌≤◌, length, ◌≡◌};
 ghost use Rattle.bdd.specs.Diagram.{Canonical};
 ghost use Rattle.bdd.specs.code.Rows.{mark_at};

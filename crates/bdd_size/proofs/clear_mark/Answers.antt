@@ -4,7 +4,6 @@ use Prim.Native.Nat.{◌-◌}
 use Rattle.bdd.specs.code.Rows.{MARK, put}
 use Rattle.bdd_size.proofs.MarkLaws.{mark-large}
 use Rattle.bdd_size.specs.code.Marks.{wiped}
-use borrow.Author.Rules.{rules}
 use mathlib.Core.Path.{◌∙◌, ap}
 use Rattle.bdd_size.proofs.clear_mark.Goals as goal
 

@@ -4,7 +4,6 @@ use Prim.Native.Nat.{◌+◌}
 use Rattle.bdd.specs.code.Rows.{MARK, put}
 use Rattle.bdd_size.proofs.MarkLaws.{mark-room}
 use Rattle.bdd_size.specs.code.Marks.{marked}
-use borrow.Author.Rules.{rules}
 use mathlib.Core.Path.{◌∙◌, ap}
 use native.Mathlib.Omega.{arith}
 use Rattle.bdd_size.proofs.set_mark.Goals as goal

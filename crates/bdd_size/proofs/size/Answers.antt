@@ -4,7 +4,6 @@ use Prim.Native.Nat.{◌/◌}
 use Rattle.bdd.proofs.AgreeLaws.{canonical-fewer}
 use Rattle.bdd_size.proofs.MarkLaws.{wipe_asks}
 use Rattle.bdd_size.proofs.SizeLaws.{sized}
-use borrow.Author.Rules.{rules}
 use native.Mathlib.Omega.{arith}
 use Rattle.bdd_size.proofs.size.Goals as goal
 
