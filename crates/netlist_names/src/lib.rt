@@ -1,5 +1,6 @@
 // The names in a file's I lines, which come after line 1.
 #![tactic(auto)]
+
 ghost use Rattle.std.specs.Prelude.{◌≤◌, drop, length, ◌≡◌};
 ghost use Rattle.netlist_model.specs.Names.{first_lacked, place_of};
 ghost use Rattle.netlist_model.specs.Records.{line_of, name_line, record_of};

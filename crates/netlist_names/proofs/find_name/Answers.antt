@@ -1,4 +1,3 @@
-use Prim.Native.Nat.{◌-◌}
 use Rattle.netlist_model.proofs.NameLaws.{place_here, place-there}
 use Rattle.netlist_model.specs.Names.{place_of}
 use Rattle.netlist_names.proofs.Finding.{first_ended, here-name, here_record, walk_begins, walk_ended, walk_here, walk_next}
@@ -14,9 +13,9 @@ loop-k-init c = rw c.line_end-at.ensures (walk_begins _ c.requires (omega arith)
 
 pub name_at-requires : goal.name_at-requires
 name_at-requires c = let n = walk_here _ c.loop-k.invariant c.loop-k-test.true in record {
-      at_in_bounds = omega (arith, n.ended);
-      file_value = here_record n;
-    }
+  at_in_bounds = omega (arith, n.ended);
+  file_value = here_record n;
+}
 
 pub returns-then-is_same : goal.returns-then-is_same
 returns-then-is_same c =

@@ -1,4 +1,3 @@
-use Prim.Native.Nat.{◌-◌}
 use Rattle.netlist_model.specs.Names.{first_lacked}
 use Rattle.netlist_names.proofs.Finding.{first_ended, here-name, here_record, lacked-here, lacked-there, walk_begins, walk_ended, walk_here, walk_next}
 use native.Mathlib.Omega.{arith}
@@ -12,9 +11,9 @@ loop-k-init c = rw c.line_end-at.ensures (walk_begins _ c.requires.names_there_2
 
 pub name_at-requires : goal.name_at-requires
 name_at-requires c = let n = walk_here _ c.loop-k.invariant c.loop-k-test.true in record {
-      at_in_bounds = omega (arith, n.ended);
-      file_value = here_record n;
-    }
+  at_in_bounds = omega (arith, n.ended);
+  file_value = here_record n;
+}
 
 pub find_name-requires : goal.find_name-requires
 find_name-requires c = c.requires.names_there

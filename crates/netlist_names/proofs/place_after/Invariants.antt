@@ -2,7 +2,6 @@
 -- The measure is the number of lines not yet passed.
 use Prim.Native.Nat.{◌-◌, ◌≤◌}
 use Rattle.netlist_model.specs.code.Passing.{place_after}
-use Rattle.netlist_names.proofs.place_after.Lts as lts
 use mathlib.Core.Path.{◌≡◌}
 use Rattle.netlist_names.proofs.place_after.Given as goal
 
