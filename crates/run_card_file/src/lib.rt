@@ -1,5 +1,6 @@
 // A file of cards: `%` between the cards, `|` between the fields of a card, `,` between the numbers of a field.
 #![tactic(auto)]
+
 ghost use Rattle.std.specs.Prelude.{◌*◌, ◌+◌, ◌-◌, min, length, ◌≡◌};
 ghost use Rattle.run_card_file.specs.CardFile.{HIGHEST, part_of, value_of};
 ghost use Rattle.text.specs.Split.{split_at};

@@ -1,4 +1,3 @@
-use Prim.Native.Nat.{◌-◌}
 use Rattle.run_card_file.proofs.NumberLaws.{number-ended, number-next, number_started}
 use borrow.Author.Rules.{rules}
 use mathlib.Core.Path.{◌∙◌, sym}
