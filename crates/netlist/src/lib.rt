@@ -1,5 +1,6 @@
 // Drawing files: a whole file checked (tests 2 to 6 and 18).
 #![tactic(auto)]
+
 pub mod check;
 
 pub use netlist_model::{Checked, MAX_BYTES, Role, Summary};

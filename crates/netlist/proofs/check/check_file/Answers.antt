@@ -1,33 +1,23 @@
-use Prim.Native.Nat.{◌-◌}
 use Rattle.netlist_model.proofs.PassingLaws.{ahead_begins, ahead-ended, ahead-ends, ahead-next, ahead_refuses, ahead-seen, ahead-start, line_few}
-use Rattle.netlist_model.specs.declared.Due.TheVariants.{First, Later}
-use Rattle.netlist_model.specs.declared.Due.{Due}
-use Rattle.netlist_model.specs.declared.Role.TheVariants as role
-use Rattle.netlist_model.specs.declared.Role.{Role}
-use borrow.Author.Rules.{rules}
 use mathlib.Core.Path.{◌∙◌, sym}
 use native.Mathlib.Omega.{arith}
 use Rattle.netlist.proofs.check.check_file.Goals as goal
-
-abbrev role_of : Due → Role
-role_of (First role) = role
-role_of (Later b) = role.First
 
 pub loop-at-init : goal.loop-at-init
 loop-at-init c = ahead_begins _ _
 
 pub step-stepped-requires : goal.step-stepped-requires
 step-stepped-requires c = let a = c.loop-at.invariant in record {
-      held = a.held;
-      seen_there = ahead-seen a;
-      at_in_bounds = c.loop-at-test.true;
-    }
+  held = a.held;
+  seen_there = ahead-seen a;
+  at_in_bounds = c.loop-at-test.true;
+}
 
 pub returns-in-Refuse : goal.returns-in-Refuse
 returns-in-Refuse c = record {
-      answer = ahead_refuses c.loop-at.invariant c.loop-at-test.true _ (sym c.step-stepped.ensures ∙ c.in-Refuse.is);
-      start = tt;
-    }
+  answer = ahead_refuses c.loop-at.invariant c.loop-at-test.true _ (sym c.step-stepped.ensures ∙ c.in-Refuse.is);
+  start = tt;
+}
 
 pub line_end-at-requires : goal.line_end-at-requires
 line_end-at-requires c =
@@ -48,12 +38,12 @@ loop-at-preserved c =
 
 pub ended-requires : goal.ended-requires
 ended-requires c = let a = c.loop-at.invariant in record {
-      held = a.held;
-      start_inside = ahead-start a;
-    }
+  held = a.held;
+  start_inside = ahead-start a;
+}
 
 pub returns : goal.returns
 returns c = record {
-      answer = c.ended.ensures.answer ∙ ahead-ends c.loop-at.invariant c.loop-at-test.false;
-      start = c.ended.ensures.start;
-    }
+  answer = c.ended.ensures.answer ∙ ahead-ends c.loop-at.invariant c.loop-at-test.false;
+  start = c.ended.ensures.start;
+}

@@ -2,7 +2,6 @@
 -- The header's counts are tested by the call.
 use Rattle.netlist_model.proofs.StepLaws.{constraint-first, gate-first, malformed-refused, name-first, output-first}
 use Rattle.netlist_model.specs.declared.Due.TheVariants.{First}
-use borrow.Author.Rules.{rules}
 use mathlib.Core.List.{[]}
 use mathlib.Core.Path.{sym}
 use Rattle.netlist.proofs.check.first_step.Goals as goal

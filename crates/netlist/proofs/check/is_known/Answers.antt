@@ -2,7 +2,6 @@
 -- An edition that is not below 1 and not above 2 is one of the two.
 use Prim.Native.Nat.{◌≤◌, ℕ}
 use Rattle.netlist_model.specs.Limits.{by_name_edition, by_place_edition}
-use borrow.Author.Rules.{rules}
 use borrow.Author.Tests.{eq-eqb, ne_eqb}
 use lib.Dec.{eqb}
 use mathlib.Core.Bool.{◌||◌, true}

@@ -3,7 +3,6 @@
 use Rattle.netlist_model.proofs.StepLaws.{constraint_unseen, gate_unseen, header-again, line_told, malformed-refused, output_unseen}
 use Rattle.netlist_model.specs.code.Passing.{first_line}
 use Rattle.netlist_model.specs.declared.Due.TheVariants.{Later}
-use borrow.Author.Rules.{rules}
 use lib.ListN.{drop}
 use mathlib.Core.Path.{◌∙◌, sym}
 use Rattle.netlist.proofs.check.later_step.Goals as goal
@@ -11,10 +10,10 @@ use Rattle.netlist.proofs.check.later_step.Goals as goal
 pub name_step-requires : goal.name_step-requires
 name_step-requires c =
     let p = c.requires in record {
-      counted = p.0;
-      names_there = p.1.0;
-      at_in_bounds = p.1.1.0;
-      value = sym c.in-Name.is ∙ p.1.1.1;
+      counted = p.counted;
+      names_there = p.names_there;
+      at_in_bounds = p.at_in_bounds;
+      value = sym c.in-Name.is ∙ p.found_value;
     }
 
 pub returns-in-Malformed : goal.returns-in-Malformed

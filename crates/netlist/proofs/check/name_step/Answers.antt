@@ -11,9 +11,9 @@ use Rattle.netlist.proofs.check.name_step.Goals as goal
 
 pub name_at-name-requires : goal.name_at-name-requires
 name_at-name-requires c = record {
-      at_in_bounds = search rules;
-      file_value = name-read c.args.file.now c.args.at c.requires.value;
-    }
+  at_in_bounds = search rules;
+  file_value = name-read c.args.file.now c.args.at c.requires.value;
+}
 
 pub returns-then-body : goal.returns-then-body
 returns-then-body c =

@@ -2,16 +2,15 @@
 -- What is due holds its counts within their limits, and the names in earlier lines are there.
 use Rattle.netlist_model.proofs.PassingLaws.{held-later}
 use Rattle.netlist_model.proofs.StepLaws.{first_unseen}
-use borrow.Author.Rules.{rules}
 use mathlib.Core.Path.{◌∙◌, sym}
 use Rattle.netlist.proofs.check.step.Goals as goal
 
 pub later_step-requires : goal.later_step-requires
 later_step-requires c =
     let p = c.requires in record {
-      counted = held-later (rw c.in-Later.is at p.0);
-      names_there = rw c.in-Later.is at p.1.0;
-      at_in_bounds = p.1.1;
+      counted = held-later (rw c.in-Later.is at p.held);
+      names_there = rw c.in-Later.is at p.seen_there;
+      at_in_bounds = p.at_in_bounds;
       found_value = c.next_record-found.ensures;
     }
 
