@@ -215,3 +215,4 @@ module _ {s : List ℕ} {limit used f g left steps most : ℕ} {h : Halves} (B :
           → Multiplies s t limit used f g left steps most answer
       row-added t (Done r u k) (M, e) = rw e (row_done M)
       row-added t (ShortOfRows u k) (M, (eu, ek)) = rw (eu, ek) (row-short M)
+      row-added t (ShortOfSteps _ _) x3 = elim x3 [ ]

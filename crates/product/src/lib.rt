@@ -1,5 +1,6 @@
 // The product: the recursive AND of two diagrams, counted.
 #![tactic(auto)]
+
 ghost use Rattle.std.specs.Prelude.{◌-◌, ◌<◌, ◌≤◌};
 ghost use Rattle.bdd.specs.Diagram.{Reference};
 ghost use Rattle.bdd.specs.code.Rows.{MARK};

@@ -1,6 +1,5 @@
 -- The answer of `make` is that of the product, with the steps as they were.
 -- No loop.
-use borrow.Author.Rules.{rules}
 use mathlib.Core.Path.{refl}
 use Rattle.product.proofs.add_row.Goals as goal
 
