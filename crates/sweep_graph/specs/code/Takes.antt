@@ -9,7 +9,7 @@ use Rattle.bdd.specs.code.Rows.{RADIX}
 use Rattle.sweep_graph.specs.code.Stages.{stage_word, with_stage, word_stage}
 use Rattle.sweep_model.specs.Normalise.{merged?, wake}
 use Rattle.sweep_model.specs.State.{gone, gone?, has?}
-use Rattle.std.specs.Borrow.{Bor}
+use Rattle.std.specs.Borrow.{MutBor}
 use denote.Triple.Both.{Both}
 
 -- What handing over changes: the words of stages and of diagrams, and the rows of diagrams, which name their owners.
@@ -23,7 +23,7 @@ held stages diagrams rows = record { stages = stages; diagrams = diagrams; rows 
 
 -- A lent slice, at entry and at exit.
 abbrev pub Slice : Type 0
-Slice = Both (Bor (List ℕ)) (Bor (List ℕ))
+Slice = Both (MutBor (List ℕ)) (MutBor (List ℕ))
 
 -- What three lent slices hold, at entry and at exit.
 abbrev pub helds : Slice → Slice → Slice → Both Held Held
