@@ -1,3 +1,4 @@
 // One pass over the working graph: what newly merged vertices hand over.
 #![tactic(auto)]
+
 pub mod take;

@@ -4,7 +4,6 @@ use Rattle.aig.specs.Literal.{vertex_of}
 use Rattle.bdd.specs.Diagram.{edge}
 use Rattle.sweep_graph.proofs.TakeLaws.{given-words, has-read}
 use Rattle.sweep_graph.specs.code.Takes.{taken_diagrams}
-use borrow.Author.Rules.{rules}
 use mathlib.Core.Path.{refl}
 use native.Mathlib.Omega.{arith}
 use Rattle.sweep_take.proofs.take.give_diagram.Goals as goal
@@ -19,7 +18,7 @@ returns-then-has_diagram c =
 pub overflow_cast-reference : goal.overflow_cast-reference
 unfolding edge
 overflow_cast-reference c =
-    rw c.edge_to-reference.ensures (record { fits = omega (arith, c.first_word-2.type-inv) })
+    rw c.edge_to-reference.ensures (record { fits = omega (arith, c.first_word-2.type_inv) })
 
 pub returns : goal.returns
 returns c =

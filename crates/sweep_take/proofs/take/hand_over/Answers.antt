@@ -3,7 +3,6 @@
 use Rattle.aig.specs.Literal.{vertex_of}
 use Rattle.sweep_graph.proofs.TakeLaws.{handed-diagram, handed_nothing, handed-turn, has-read}
 use Rattle.sweep_graph.specs.code.Takes.{held}
-use borrow.Author.Rules.{rules}
 use mathlib.Core.Path.{refl}
 use Rattle.sweep_take.proofs.take.hand_over.Goals as goal
 

@@ -4,7 +4,6 @@ use Rattle.sweep_graph.proofs.TakeLaws.{merged-read, passed-gone, passed-unmerge
 use Rattle.sweep_graph.specs.code.Stages.{word_stage}
 use Rattle.sweep_graph.specs.code.Takes.{held}
 use Rattle.sweep_model.specs.State.{gone?}
-use borrow.Author.Rules.{rules}
 use mathlib.Core.Path.{◌∙◌, ap, sym}
 use Rattle.sweep_take.proofs.take.take_at.Goals as goal
 

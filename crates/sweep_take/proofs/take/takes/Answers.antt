@@ -1,4 +1,3 @@
-use Prim.Native.Nat.{◌-◌}
 use Rattle.sweep_graph.proofs.TakeLaws.{taking_begins, taking_ends, taking-goes-on, taking_turns}
 use borrow.Author.Rules.{rules}
 use native.Mathlib.Omega.{arith}
@@ -10,8 +9,8 @@ loop-v-init c =
 
 pub take_at-requires : goal.take_at-requires
 take_at-requires c =
-    taking_turns c.requires.graph c.loop-v.invariant c.loop-v-test.true
--- FIELDS row room
+    let t = taking_turns c.requires.graph c.loop-v.invariant c.loop-v-test.true in
+    record { row = t.0; room = t.1 }
 
 pub overflow_add-v : goal.overflow_add-v
 overflow_add-v c = omega (arith, c.loop-v-test.true)
@@ -22,18 +21,6 @@ loop-v-smaller c = omega (arith, c.loop-v-test.true)
 pub loop-v-preserved : goal.loop-v-preserved
 loop-v-preserved c =
     taking-goes-on c.requires.graph c.loop-v.invariant c.loop-v-test.true c.take_at.ensures (search rules) (search rules) (search rules)
-
--- SETTLED? Need-same-length
--- same_length : tie.Need-same-length invariant_loop decreases_loop
--- same_length c = c.before.loop.invariant.same-stages
-
--- SETTLED? Need-same-length-2
--- same-length-2 : tie.Need-same-length-2 invariant_loop decreases_loop
--- same-length-2 c = c.before.loop.invariant.same-diagrams
-
--- SETTLED? Need-same-length-3
--- same-length-3 : tie.Need-same-length-3 invariant_loop decreases_loop
--- same-length-3 c = c.before.loop.invariant.same_rows
 
 pub returns : goal.returns
 returns c =

@@ -2,7 +2,6 @@
 -- One law says what the store comes to.
 use Rattle.sweep_graph.proofs.TakeLaws.{woken-words}
 use Rattle.sweep_graph.specs.code.Takes.{wake_words}
-use borrow.Author.Rules.{rules}
 use borrow.Author.Tests.{eq-eqb}
 use mathlib.Core.Path.{refl}
 use Rattle.sweep_take.proofs.take.wake_at.Goals as goal
