@@ -4,12 +4,12 @@ use Rattle.compare_model.specs.Compare.{CompareRoom, Given, Left, compared, limi
 use Rattle.compare_model.specs.Said.{Said, said_of}
 use Rattle.compare_model.specs.declared.Limits.{Limits as Asked}
 use Rattle.sweep_model.specs.declared.Reply.{Reply}
-use Rattle.std.specs.Borrow.{Bor}
+use Rattle.std.specs.Borrow.{MutBor}
 use denote.Triple.Both.{Both}
 
 -- A lent slice, at entry and at exit.
 abbrev pub Slice : Type 0
-Slice = Both (Bor (List ℕ)) (Bor (List ℕ))
+Slice = Both (MutBor (List ℕ)) (MutBor (List ℕ))
 
 -- The lists that the eight slices hold at one moment.
 pub record Slices : Type 0 where

@@ -22,8 +22,9 @@ copy_out-requires c = record {
 
 pub write_setting-requires : goal.write_setting-requires
 write_setting-requires c =
-    rw c.inputs-inputs.ensures (c.requires.store, (c.requires.refers, c.requires.room))
--- FIELDS store references long
+    let t =
+        rw c.inputs-inputs.ensures (c.requires.store, (c.requires.refers, c.requires.room)) in
+    record { store = t.0; references = t.1.0; long = t.1.1 }
 
 pub returns : goal.returns
 returns c = record {

@@ -8,8 +8,9 @@ use Rattle.sweep_look.proofs.look.look.Goals as goal
 pub look_at-requires : goal.look_at-requires
 look_at-requires c =
     let need = c.requires in
-    rw (c.resolve-l.ensures, c.resolve-r.ensures) ((need.left-diagram, need.left-stage), (need.right-diagram, need.right-stage))
--- FIELDS first second
+    let t =
+        rw (c.resolve-l.ensures, c.resolve-r.ensures) ((need.left-diagram, need.left-stage), (need.right-diagram, need.right-stage)) in
+    record { first = t.0; second = t.1 }
 
 pub returns : goal.returns
 returns c =

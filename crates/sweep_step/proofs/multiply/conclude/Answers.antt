@@ -6,8 +6,10 @@ use borrow.Author.Rules.{rules}
 use Rattle.sweep_step.proofs.multiply.conclude.Goals as goal
 
 pub settle-left-requires : goal.settle-left-requires
-settle-left-requires c = c.requires
--- FIELDS ended long
+settle-left-requires c =
+    let t =
+        c.requires in
+    record { ended = t.0; long = t.1 }
 
 pub look-seen-requires : goal.look-seen-requires
 look-seen-requires c =

@@ -22,15 +22,19 @@ pub overflow_sub-added : goal.overflow_sub-added
 overflow_sub-added c = omega (arith, (lacking-rows c.requires.due.on c.take_product-product.new.rows c.in-ShortOfRows.is c.take_product-product.ensures).0.1)
 
 pub break_off-requires : goal.break_off-requires
-break_off-requires c = lacking-rows c.requires.due.on c.take_product-product.new.rows c.in-ShortOfRows.is c.take_product-product.ensures
--- FIELDS store words
+break_off-requires c =
+    let t =
+        lacking-rows c.requires.due.on c.take_product-product.new.rows c.in-ShortOfRows.is c.take_product-product.ensures in
+    record { store = t.0; words = t.1 }
 
 pub overflow_sub-added-in-ShortOfSteps : goal.overflow_sub-added-in-ShortOfSteps
 overflow_sub-added-in-ShortOfSteps c = omega (arith, (lacking-steps c.requires.due.on c.take_product-product.new.rows c.in-ShortOfSteps.is c.take_product-product.ensures).0.1)
 
 pub break_off-requires-in-ShortOfSteps : goal.break_off-requires-in-ShortOfSteps
-break_off-requires-in-ShortOfSteps c = lacking-steps c.requires.due.on c.take_product-product.new.rows c.in-ShortOfSteps.is c.take_product-product.ensures
--- FIELDS store words
+break_off-requires-in-ShortOfSteps c =
+    let t =
+        lacking-steps c.requires.due.on c.take_product-product.new.rows c.in-ShortOfSteps.is c.take_product-product.ensures in
+    record { store = t.0; words = t.1 }
 
 pub returns-in-Done : goal.returns-in-Done
 returns-in-Done c =
