@@ -2,7 +2,6 @@
 -- Either way the look-up holds the row that is written.
 use Rattle.aig.proofs.FirstVertexLaws.{found_at}
 use Rattle.sweep_normalise.proofs.NormaliseLaws.{entered-turn, found_turn}
-use borrow.Author.Rules.{rules}
 use mathlib.Core.Path.{◌∙◌, sym}
 use native.Mathlib.Omega.{arith}
 use Rattle.sweep_normalise.proofs.normalise.find_again.Goals as goal
@@ -15,12 +14,14 @@ new-r-requires c =
 
 pub returns-in-At : goal.returns-in-At
 returns-in-At c =
+    let t =
     found_turn c.requires.turn c.args.p c.args.q c.in-At.u
-    (sym c.find_vertex-found.ensures ∙ c.in-At.is) c.new-r.ensures c.set_words.ensures
--- FIELDS pairs_after indexed
+    (sym c.find_vertex-found.ensures ∙ c.in-At.is) c.new-r.ensures c.set_words.ensures in
+    record { pairs_after = t.0; indexed = t.1 }
 
 pub returns-in-Nothing : goal.returns-in-Nothing
 returns-in-Nothing c =
+    let t =
     entered-turn c.requires.turn c.args.p c.args.q c.requires.apart
-    (sym c.find_vertex-found.ensures ∙ c.in-Nothing.is) c.set_words-in-Nothing.ensures c.enter.ensures
--- FIELDS pairs_after indexed
+    (sym c.find_vertex-found.ensures ∙ c.in-Nothing.is) c.set_words-in-Nothing.ensures c.enter.ensures in
+    record { pairs_after = t.0; indexed = t.1 }

@@ -1,4 +1,3 @@
-use Prim.Native.Nat.{◌-◌}
 use Rattle.sweep_normalise.proofs.NormaliseLaws.{pass-begins, pass_ends, pass-goes-on, pass_turns}
 use borrow.Author.Rules.{rules}
 use native.Mathlib.Omega.{arith}

@@ -2,15 +2,14 @@
 -- The operands refer to lower vertices, whose rows the slice holds.
 use Rattle.sweep_normalise.proofs.NormaliseLaws.{equal-turn, pair-apart, row-folds}
 use Rattle.sweep_model.specs.Normalise.{folded_row}
-use borrow.Author.Rules.{rules}
 use mathlib.Core.Path.{◌∙◌, ap, sym}
 use Rattle.sweep_normalise.proofs.normalise.normalise_row.Goals as goal
 
 pub find_again-requires : goal.find_again-requires
 find_again-requires c = record {
-      turn = c.requires;
-      apart = pair-apart c.resolve-a.result.0 c.resolve-b.result.0 c.fold_pair-folded.ensures c.in-Pair.is;
-    }
+  turn = c.requires;
+  apart = pair-apart c.resolve-a.result.0 c.resolve-b.result.0 c.fold_pair-folded.ensures c.in-Pair.is;
+}
 
 pub returns-in-To : goal.returns-in-To
 unfolding folded_row
