@@ -1,5 +1,6 @@
 // The refusals 10 and 11: whether some words are a table that keeps the rules.
 #![tactic(auto)]
+
 ghost use Rattle.std.specs.Prelude.{◌*◌, ◌+◌, ◌<◌, ◌≤◌, drop, length, ◌≡◌};
 ghost use Rattle.table.specs.Accepted.{WellFormed};
 ghost use Rattle.table.specs.Limits.{max_ands, max_inputs};

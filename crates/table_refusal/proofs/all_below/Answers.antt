@@ -1,4 +1,3 @@
-use Prim.Native.Nat.{◌-◌}
 use Rattle.table_refusal.proofs.TestLaws.{all-below_step}
 use Rattle.table.specs.Table.{all_below?}
 use borrow.Author.Rules.{rules}
@@ -6,8 +5,6 @@ use borrow.Author.Tests.{le-ltb, lt-ltb}
 use lib.ListN.{drop_of_length-le}
 use mathlib.Core.Path.{refl}
 use Rattle.table_refusal.proofs.all_below.Goals as goal
-
-)
 
 pub loop-i-init : goal.loop-i-init
 loop-i-init c = (search rules, refl)
@@ -20,6 +17,7 @@ pub loop-i-preserved : goal.loop-i-preserved
 loop-i-preserved c = (
   search rules,
   rw (c.loop-i.invariant.1, all-below_step _ _ _ c.loop-i-test.true, lt-ltb _ _ c.if-bound-words.false) refl,
+)
 
 pub returns : goal.returns
 unfolding all_below?

@@ -2,8 +2,6 @@
 -- The part between the rows and the constraint's word is that of the output references.
 use Prim.Native.Nat.{◌*◌, ◌+◌, ◌-◌, ℕ}
 use Rattle.table.specs.Table.{all_below?, made_of, out_of_order?, output_words, outputs_of, rows_of}
-use borrow.Author.Rules.{rules}
-use borrow.Author.Tests.{not-false, not-true}
 use lib.ListN.{drop, take}
 use mathlib.Core.Bool.{Bool}
 use mathlib.Core.List.{List}
@@ -23,20 +21,20 @@ pub returns-then-not-is_downward : goal.returns-then-not-is_downward
 unfolding out_of_order? rows_of
 returns-then-not-is_downward c =
     let rows = c.is_downward in
-    rw (← rows.ensures, not-true rows.result c.if-not-is_downward.true) refl
+    rw (← rows.ensures, c.if-not-is_downward.true) refl
 
 pub returns-then-not-all_below : goal.returns-then-not-all_below
 unfolding out_of_order? rows_of
 returns-then-not-all_below c =
     let rows = c.is_downward in
     let below = c.all_below in
-    rw (← rows.ensures, not-false rows.result c.if-not-is_downward.false)
-    (rw (references_part _ _ _ below.ensures, not-true below.result c.if-not-all_below.true) refl)
+    rw (← rows.ensures, c.if-not-is_downward.false)
+    (rw (references_part _ _ _ below.ensures, c.if-not-all_below.true) refl)
 
 pub returns : goal.returns
 unfolding out_of_order? rows_of
 returns c =
     let rows = c.is_downward in
     let below = c.all_below in
-    rw (← rows.ensures, not-false rows.result c.if-not-is_downward.false)
-    (rw (references_part _ _ _ below.ensures, not-false below.result c.if-not-all_below.false) refl)
+    rw (← rows.ensures, c.if-not-is_downward.false)
+    (rw (references_part _ _ _ below.ensures, c.if-not-all_below.false) refl)
