@@ -1,7 +1,6 @@
 -- Nothing was picked later, or the sizes decide; no loop.
 -- Each return rewrites with what led to it.
 use Rattle.sweep_pick.specs.code.Pick.{lesser}
-use borrow.Author.Rules.{rules}
 use borrow.Author.Tests.{le-leb, lt-leb}
 use mathlib.Core.Path.{refl}
 use Rattle.sweep_pick.proofs.pick.lesser.Goals as goal

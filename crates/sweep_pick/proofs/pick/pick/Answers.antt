@@ -12,23 +12,21 @@ loop-v-init c =
     (omega arith, rw none refl)
 
 pub pick_here-picked-requires : goal.pick_here-picked-requires
-pick_here-picked-requires c =
-    (
-      omega arith,
-      (
-        omega arith,
-        λ w e.
-            omega (arith, (least-is c.args.stages.now c.args.diagrams.now (c.args.count - c.loop-v.v) c.loop-v.v w (sym c.loop-v.invariant.1 ∙ e)).within),
-      ),
-    )
+pick_here-picked-requires c = (
+  omega arith,
+  (
+    omega arith,
+    λ w e.
+        omega (arith, (least-is c.args.stages.now c.args.diagrams.now (c.args.count - c.loop-v.v) c.loop-v.v w (sym c.loop-v.invariant.1 ∙ e)).within),
+  ),
+)
 
 pub loop-v-preserved : goal.loop-v-preserved
-loop-v-preserved c =
-    (
-      omega arith,
-      least_more c.args.stages.now c.args.diagrams.now c.args.count c.loop-v.v c.loop-v-test.true c.loop-v.invariant.0
-          c.loop-v.invariant.1 c.pick_here-picked.ensures,
-    )
+loop-v-preserved c = (
+  omega arith,
+  least_more c.args.stages.now c.args.diagrams.now c.args.count c.loop-v.v c.loop-v-test.true c.loop-v.invariant.0
+      c.loop-v.invariant.1 c.pick_here-picked.ensures,
+)
 
 pub returns : goal.returns
 returns c =
