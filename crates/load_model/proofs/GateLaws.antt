@@ -115,11 +115,11 @@ module _ {n : ℕ} {t : Traced} (h : Ready n t) where
 -- The gates of a file keep the graph good and ask for the ANDs that they stand for.
 pub gates_step : {n : ℕ} {t : Traced} → Ready n t → (gs : List Gate) → Step n t.build (and_count gs) (ask_gates t gs).build
 unfolding ask_gates and_count
-gates_step h [] = step_none h.good
-gates_step h (x ∷ gs) = step_then (after_gate_step h x) (gates_step (after_gate-ready h x) gs)
+gates_step {n = n} {t = t} h [] = step_none h.good
+gates_step {n = n} {t = t} h (x ∷ gs) = step_then (after_gate_step h x) (gates_step {n = n} {t = after_gate t x} (after_gate-ready h x) gs)
 
 -- Then the file's literals are those of vertices of the graph.
 pub gates-ready : {n : ℕ} {t : Traced} → Ready n t → (gs : List Gate) → Ready n (ask_gates t gs)
 unfolding ask_gates
-gates-ready h [] = h
-gates-ready h (x ∷ gs) = gates-ready (after_gate-ready h x) gs
+gates-ready {n = n} {t = t} h [] = h
+gates-ready {n = n} {t = t} h (x ∷ gs) = gates-ready {n = n} {t = after_gate t x} (after_gate-ready h x) gs

@@ -157,8 +157,8 @@ module _ {A : Type 0} {Sound : A → Type 0} {invert : A → A} {both : A → A 
         → Follows invert both falsum vs (ask_gates t gs) (vertex_results invert both falsum operation us gs)
         × Origin invert both falsum vs t.build (ask_gates t gs).build (ands_from invert both falsum operation us gs)
     unfolding ask_gates vertex_results ands_from value
-    gates_mean h f [] w = (f, origin-none refl refl [])
-    gates_mean {t = t} {us} h f (x ∷ gs) w =
+    gates_mean {n = n} {t = t} {us = us} h f [] w = (f, origin-none refl refl [])
+    gates_mean {n = n} {t = t} {us = us} h f (x ∷ gs) w =
         let r = after_gate-ready h x in
         let m = after_gate-means h f x (valued-before r.good (gates_step r gs) w) in
         let y : A = gate_result invert both falsum operation us x in
@@ -167,5 +167,5 @@ module _ {A : Type 0} {Sound : A → Type 0} {invert : A → A} {both : A → A 
           count = simp length-append (ap (λ (k : ℕ). k + 1) f.count);
           each = more-each t.literals us _ y f.count f.each m.literal;
         } in
-        let rest = gates_mean r next gs w in
+        let rest = gates_mean {n = n} {t = after_gate t x} {us = us ++ (y ∷ [])} r next gs w in
         (rest.0, origin_then m.origin rest.1)

@@ -13,7 +13,7 @@ use Rattle.netlist_model.specs.Pairing.{gate_for, paired, reference_for, vertex_
 use borrow.Author.Tests.{eqb-false, eqb-true}
 use lib.ListN.{get_or-eq_default, get_or, length, length-map}
 use mathlib.Core.Bool.{Bool, false, true}
-use mathlib.Core.List.{List, [], ◌∷◌, map}
+use mathlib.Core.List.{List, [], ◌++◌, ◌∷◌, map}
 use mathlib.Core.Logic.{⊎_elim}
 use mathlib.Core.Path.{◌∙◌, ◌≡◌, ap, ap₂, refl, subst, subst⁻¹, sym}
 use native.Mathlib.Decide.{dec_lt}
@@ -61,12 +61,12 @@ module _ {d e : Netlist} (m : Matched d e) where
   gates-alike : {us vs : List ℕ} → Alike m 0 us vs → (b : Build) (gs : List Gate)
       → Both (ask_gates (record { literals = us; build = b }) gs) (ask_gates (record { literals = vs; build = b }) (map (gate_for d e) gs))
   unfolding ask_gates
-  gates-alike a b [] = record { alike = a; build = refl }
+  gates-alike {us = us} {vs = vs} a b [] = record { alike = a; build = refl }
   gates-alike {us = us} {vs = vs} a b (g ∷ gs) =
       let x = ask_gate b g.op (literal_for us g.p) (literal_for us g.q) in
       subst (λ (y : Built). Both (ask_gates (with_gate us x) gs) (ask_gates (with_gate vs y) (map (gate_for d e) gs)))
       (ap₂ (ask_gate b g.op) (literal-alike a g.p) (literal-alike a g.q))
-      (gates-alike (alike_next m a x.literal) x.build gs)
+      (gates-alike {us = us ++ x.literal ∷ []} {vs = vs ++ x.literal ∷ []} (alike_next m a x.literal) x.build gs)
 
   constraint-alike : {us vs : List ℕ} → Alike m 0 us vs → (rs : List ℕ)
       → literal_for us (get_or rs 0 1) ≡ literal_for vs (get_or (map (reference_for d e) rs) 0 1)
