@@ -1,5 +1,6 @@
 // The graph while files are loaded into it: `pairs` has two words a vertex, and `look` finds a vertex by them.
 #![tactic(auto)]
+
 ghost use Rattle.std.specs.Prelude.{◌*◌, ◌+◌, ◌<◌, ◌≤◌, length, ◌≡◌};
 ghost use Rattle.aig.specs.Lookup.{entered, with_row};
 ghost use Rattle.load_model.specs.Build.{ask_and, ask_gate, ask_xor, empty_build};

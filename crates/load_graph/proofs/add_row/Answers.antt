@@ -1,6 +1,5 @@
 -- Two stores and an entry, in the order of the definitions; no loop.
 -- The second store is inside the slice, since the first keeps its length.
-use borrow.Author.Rules.{rules}
 use lib.ListN.{length-set}
 use native.Mathlib.Omega.{arith}
 use Rattle.load_graph.proofs.add_row.Goals as goal

@@ -4,32 +4,23 @@ use Rattle.load_graph.proofs.Asking.{asked-one, xor_built}
 use native.Mathlib.Omega.{arith}
 use Rattle.load_graph.proofs.ask_xor.Goals as goal
 
-)
-
 pub ask_and-two-requires : goal.ask_and-two-requires
 ask_and-two-requires c = record {
-      graph = c.ask_and-one.ensures.graph;
-      room = omega (arith, asked-one _ _ _ c.ask_and-one.ensures.result, c.requires.room);
-    }
+  graph = c.ask_and-one.ensures.graph;
+  room = omega (arith, asked-one _ _ _ c.ask_and-one.ensures.result, c.requires.room);
+}
 
 pub ask_and-three-requires : goal.ask_and-three-requires
 ask_and-three-requires c = record {
-      graph = c.ask_and-two.ensures.graph;
-      room = omega (arith, asked-one _ _ _ c.ask_and-two.ensures.result, asked-one _ _ _ c.ask_and-one.ensures.result, c.requires.room);
-    }
-
--- SETTLED? Need-same-length
--- same_length : tie.Need-same-length
--- same_length c = omega (arith, c.before.before.before.before.before.pairs3.given, c.before.before.before.before.before.before.before.before.before.before.before.before.before.before.pairs2.given, c.before.before.before.before.before.before.before.before.before.before.before.before.before.before.before.before.before.before.before.before.before.before.pairs.given)
-
--- SETTLED? Need-same-length-2
--- same-length-2 : tie.Need-same-length-2
--- same-length-2 c = omega (arith, c.before.before.before.look3.given, c.before.before.before.before.before.before.before.before.before.before.before.before.look2.given, c.before.before.before.before.before.before.before.before.before.before.before.before.before.before.before.before.before.before.before.before.look.given)
+  graph = c.ask_and-two.ensures.graph;
+  room = omega (arith, asked-one _ _ _ c.ask_and-two.ensures.result, asked-one _ _ _ c.ask_and-one.ensures.result, c.requires.room);
+}
 
 pub returns : goal.returns
-returns c = (
-  rw c.negated-literal.ensures
+returns c = record {
+  result =
+      rw c.negated-literal.ensures
       (xor_built _ _ _ c.negated.ensures c.ask_and-one.ensures.result c.negated-2.ensures c.ask_and-two.ensures.result c.negated-not_one.ensures
-      c.negated-not_two.ensures c.ask_and-three.ensures.result),
-  c.ask_and-three.ensures.graph,
--- FIELDS result graph
+      c.negated-not_two.ensures c.ask_and-three.ensures.result);
+  graph = c.ask_and-three.ensures.graph;
+}

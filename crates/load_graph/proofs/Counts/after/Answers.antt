@@ -1,6 +1,5 @@
 -- Each return is one case of the definition; no loop.
 -- Every count is at most the ANDs asked for, so that it has room.
-use borrow.Author.Rules.{rules}
 use mathlib.Core.Path.{refl}
 use Rattle.load_graph.proofs.Counts.after.Goals as goal
 
