@@ -45,11 +45,15 @@ numbers =
 pub bit_numbers : Homomorphism not ◌&&◌ false number_invert ◌*◌ 0 bit
 bit_numbers =
     record {
-      keeps-invert = λ x. elim x [ true ↦ refl | false ↦ refl ];
+      keeps-invert = λ x. inverted x;
       keeps-both = λ x y. both x y;
       keeps_false = refl;
     }
   where
+    inverted : (x : Bool) → bit (not x) ≡ number_invert (bit x)
+    inverted true = refl
+    inverted false = refl
+
     both : (x y : Bool) → bit (x && y) ≡ bit x * bit y
     both true true = refl
     both true false = refl
