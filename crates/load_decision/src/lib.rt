@@ -1,5 +1,6 @@
 // Whether two files are loaded: every refusal, decided over the files and the lengths of the lent slices.
 #![tactic(auto)]
+
 ghost use Rattle.load_model.specs.Load.{short_slice?};
 ghost use Rattle.load_decision.specs.code.Decision.{Checks, checked_file, decision, pair_decision, second_decision};
 ghost use Rattle.load_model.specs.Lent.{room_of};

@@ -3,7 +3,6 @@
 use Rattle.load_decision.proofs.Checking.{checked-is}
 use Rattle.load_decision.specs.code.Decision.{decision, read_decision}
 use Rattle.table.specs.Refusals.{first_refusal}
-use borrow.Author.Rules.{rules}
 use borrow.Author.Tests.{le-ltb, lt-ltb}
 use mathlib.Core.Path.{◌∙◌, refl, sym}
 use Rattle.load_decision.proofs.decide.Goals as goal
@@ -19,7 +18,7 @@ returns-then-right-gt-MAX_BYTES c = c.refused-then-right-gt-MAX_BYTES.ensures �
 pub decide_second-requires : goal.decide_second-requires
 decide_second-requires c =
     let check = c.check_file.ensures in
-    sym (checked-is _ _ check.0 check.1) ∙ c.in-Accepted.is
+    sym (checked-is _ _ check.answer check.start) ∙ c.in-Accepted.is
 
 pub returns-in-Refused : goal.returns-in-Refused
 unfolding decision read_decision first_refusal
@@ -29,7 +28,7 @@ returns-in-Refused c =
     ∙ rw (
       le-ltb _ _ c.if-left-gt-MAX_BYTES.false,
       le-ltb _ _ c.if-right-gt-MAX_BYTES.false,
-      sym (checked-is _ _ check.0 check.1) ∙ c.in-Refused.is,
+      sym (checked-is _ _ check.answer check.start) ∙ c.in-Refused.is,
     ) refl
 
 pub returns-in-Accepted : goal.returns-in-Accepted
@@ -40,5 +39,5 @@ returns-in-Accepted c =
     ∙ rw (
       le-ltb _ _ c.if-left-gt-MAX_BYTES.false,
       le-ltb _ _ c.if-right-gt-MAX_BYTES.false,
-      sym (checked-is _ _ check.0 check.1) ∙ c.in-Accepted.is,
+      sym (checked-is _ _ check.answer check.start) ∙ c.in-Accepted.is,
     ) refl

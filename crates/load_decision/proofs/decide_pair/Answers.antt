@@ -22,8 +22,9 @@ returns-then-one-two-2 c =
     ∙ rw (eq-eqb _ _ c.if-one-two.false, ne_eqb _ _ c.if-one-two-2.true) refl
 
 pub first_lacked-lacked-requires : goal.first_lacked-lacked-requires
-first_lacked-lacked-requires c = names-both c.requires c.if-one-two.false
--- FIELDS names_there names_there_2
+first_lacked-lacked-requires c =
+    let n = names-both c.requires c.if-one-two.false in
+    record { names_there = n.0; names_there_2 = n.1 }
 
 pub overflow_add-lacked : goal.overflow_add-lacked
 overflow_add-lacked c = omega (arith, names-few c.requires, c.if-lacked-two.true)

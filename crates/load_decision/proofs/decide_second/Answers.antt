@@ -2,7 +2,6 @@
 -- At the last both files are accepted.
 use Rattle.load_decision.proofs.Checking.{checked-is}
 use Rattle.load_decision.specs.code.Decision.{second_decision}
-use borrow.Author.Rules.{rules}
 use mathlib.Core.Path.{◌∙◌, refl, sym}
 use Rattle.load_decision.proofs.decide_second.Goals as goal
 
@@ -11,17 +10,17 @@ decide_pair-requires c =
     let check = c.check_file.ensures in
     record {
       left-checked = c.requires;
-      right-checked = sym (checked-is _ _ check.0 check.1) ∙ c.in-Accepted.is;
+      right-checked = sym (checked-is _ _ check.answer check.start) ∙ c.in-Accepted.is;
     }
 
 pub returns-in-Refused : goal.returns-in-Refused
 unfolding second_decision
 returns-in-Refused c =
     let check = c.check_file.ensures in
-    c.refused.ensures ∙ rw (sym (checked-is _ _ check.0 check.1) ∙ c.in-Refused.is) refl
+    c.refused.ensures ∙ rw (sym (checked-is _ _ check.answer check.start) ∙ c.in-Refused.is) refl
 
 pub returns-in-Accepted : goal.returns-in-Accepted
 unfolding second_decision
 returns-in-Accepted c =
     let check = c.check_file.ensures in
-    c.decide_pair.ensures ∙ rw (sym (checked-is _ _ check.0 check.1) ∙ c.in-Accepted.is) refl
+    c.decide_pair.ensures ∙ rw (sym (checked-is _ _ check.answer check.start) ∙ c.in-Accepted.is) refl
