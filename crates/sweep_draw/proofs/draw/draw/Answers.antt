@@ -1,6 +1,5 @@
 -- Each call writes one slice; no loop.
 -- What is written are the words.
-use borrow.Author.Rules.{rules}
 use mathlib.Core.Path.{refl}
 use Rattle.sweep_draw.proofs.draw.draw.Goals as goal
 

@@ -2,7 +2,6 @@
 -- Each call gives an equation.
 use Rattle.sweep_draw.proofs.OperandLaws.{operands-asked, operands-multiplied}
 use Rattle.sweep_state.specs.code.Look.{reference_of}
-use borrow.Author.Rules.{rules}
 use mathlib.Core.Path.{◌∙◌, ap}
 use Rattle.sweep_draw.proofs.operands.take_product.Goals as goal
 
