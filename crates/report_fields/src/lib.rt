@@ -1,5 +1,6 @@
 // The fields of a line, as bytes.
 #![tactic(auto)]
+
 ghost use Rattle.std.specs.Prelude.{◌+◌, ◌≤◌, length, [], ◌++◌, ◌∷◌};
 ghost use Rattle.report_format.specs.Report.{NUMBER_DIGITS, StoredWithin, WORD_LETTERS, setting_field, vertex_field, word_bytes};
 ghost use Rattle.text.specs.Decimal.{Stored, decimal};

@@ -1,15 +1,10 @@
-use Prim.Native.Nat.{◌+◌, ◌-◌}
+use Prim.Native.Nat.{◌+◌}
 use Rattle.report_format.proofs.StoredLaws.{byte_fits, stored_more, stored-none, stored-whole}
-use Rattle.text.proofs.DecimalLaws.{stored_length}
 use borrow.Author.Rules.{rules}
-use native.Mathlib.Omega.{arith}
 use Rattle.report_fields.proofs.put.Goals as goal
 
 pub loop-i-init : goal.loop-i-init
 loop-i-init c = (search rules, stored-none c.args.out.now c.args.at)
-
-pub overflow_add-out : goal.overflow_add-out
-overflow_add-out c = omega (arith, c.requires, c.well-formed.0)
 
 pub bounds-out-at : goal.bounds-out-at
 bounds-out-at c =
@@ -21,15 +16,8 @@ loop-i-preserved c =
     let l = c.loop-i in
     (search rules, stored_more c.args.out.now c.args.at c.args.bytes.now l.out l.i c.requires l.invariant.1 c.loop-i-test.true)
 
-pub overflow_add-result : goal.overflow_add-result
-overflow_add-result c = omega (arith, c.requires, c.well-formed.0)
-
 pub returns : goal.returns
 returns c =
     let a = c.args in
     let l = c.loop-i in
     stored-whole a.out.now a.at a.bytes.now l.out l.i (a.at + l.i) c.loop-i-test.false l.invariant.1
-
--- SETTLED? Need-same-length
--- same_length : tie.Need-same-length invariant_loop decreases_loop
--- same_length c = stored_length c.before.before.requires (returns c)

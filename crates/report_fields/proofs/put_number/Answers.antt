@@ -2,7 +2,6 @@
 -- There is no loop.
 use Rattle.report_format.proofs.LineLaws.{number_short}
 use Rattle.report_format.proofs.StoredLaws.{room_next, stored-byte, stored_next}
-use borrow.Author.Rules.{rules}
 use native.Mathlib.Omega.{arith}
 use Rattle.report_fields.proofs.put_number.Goals as goal
 
@@ -22,4 +21,4 @@ pub returns : goal.returns
 returns c =
     let print = c.print-end in
     stored_next 1 c.requires (record { stored = print.ensures; short = number_short c.args.n c.ranges.n.fits })
-    (λ h. record { stored = stored-byte print.new.1.0 print.result c.args.stop (bounds-out-end c); short = omega arith })
+    (λ h. record { stored = stored-byte print.new.out print.result c.args.stop (bounds-out-end c); short = omega arith })

@@ -3,7 +3,6 @@
 use Prim.Native.Nat.{◌+◌}
 use Rattle.report_format.proofs.StoredLaws.{room_next, stored_next}
 use Rattle.report_format.specs.Report.{NUMBER_DIGITS}
-use borrow.Author.Rules.{rules}
 use Rattle.report_fields.proofs.put_pair.Goals as goal
 
 pub put_number-requires : goal.put_number-requires

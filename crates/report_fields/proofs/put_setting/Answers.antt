@@ -2,7 +2,6 @@
 -- There is no loop.
 use Rattle.report_format.proofs.LineLaws.{setting-empty, setting-some}
 use Rattle.report_format.proofs.StoredLaws.{stored_next}
-use borrow.Author.Rules.{rules}
 use lib.ListN.{length}
 use native.Mathlib.Omega.{arith}
 use Rattle.report_fields.proofs.put_setting.Goals as goal

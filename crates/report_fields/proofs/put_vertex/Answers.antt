@@ -1,6 +1,5 @@
 -- No vertex is a `-`, any other its number, by what the match tells of it.
 -- There is no loop.
-use borrow.Author.Rules.{rules}
 use native.Mathlib.Omega.{arith}
 use Rattle.report_fields.proofs.put_vertex.Goals as goal
 

@@ -1,6 +1,5 @@
 -- Each word is its own bytes, by what the match tells of it.
 -- There is no loop.
-use borrow.Author.Rules.{rules}
 use native.Mathlib.Omega.{arith}
 use Rattle.report_fields.proofs.put_word.Goals as goal
 
