@@ -1,5 +1,6 @@
 // The literals of a file's first vertices, the constant and the inputs: by place, or by the names of the first file.
 #![tactic(auto)]
+
 ghost use Rattle.std.specs.Prelude.{◌*◌, ◌+◌, ◌≤◌, length, ◌≡◌};
 ghost use Rattle.load_model.specs.Build.{literals_from};
 ghost use Rattle.load_model.specs.code.Paired.{named_literals, second_literals};

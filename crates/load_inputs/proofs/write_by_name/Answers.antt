@@ -1,4 +1,4 @@
-use Prim.Native.Nat.{◌*◌, ◌+◌, ◌-◌, ℕ}
+use Prim.Native.Nat.{◌*◌, ◌+◌, ℕ}
 use Rattle.netlist_names.proofs.Finding.{first_ended, here-name, here_record, walk_begins, walk_here}
 use Rattle.load_inputs.proofs.Naming.{named-ends, named_length, named-turn, place-most}
 use Rattle.words.proofs.Writing.{writing_begins}
@@ -18,9 +18,9 @@ loop-k-init c = rw c.line_end-at.ensures (walk_begins _ c.requires.right (record
 
 pub name_at-requires : goal.name_at-requires
 name_at-requires c = let n = walk_here _ c.loop-k.invariant c.loop-k-test.true in record {
-      at_in_bounds = omega (arith, n.ended);
-      file_value = here_record n;
-    }
+  at_in_bounds = omega (arith, n.ended);
+  file_value = here_record n;
+}
 
 pub find_name-place-requires : goal.find_name-place-requires
 find_name-place-requires c = c.requires.left
@@ -43,10 +43,6 @@ loop-k-preserved c =
     rw c.line_end-at-in-loop-k.ensures
     (named-turn n (omega (arith, named_length c.loop-k.invariant, c.loop-k-test.true, c.requires.room, length-set c.args.literals.now 0 0)) _
     (rw (here-name n c.name_at.ensures) at (ap (λ (p : ℕ). 2 * (1 + p)) c.find_name-place.ensures)))
-
--- SETTLED? Need-same-length
--- same_length : tie.Need-same-length invariant_loop decreases_loop
--- same_length c = omega (arith, named_length c.before.loop.invariant, length-set c.before.before.before.before.before.before.args.literals.now 0 0)
 
 pub returns : goal.returns
 returns c = named-ends c.args.literals.now (omega (arith, c.requires.room)) c.loop-k.invariant c.loop-k-test.false

@@ -1,4 +1,3 @@
-use Prim.Native.Nat.{◌-◌}
 use Rattle.load_inputs.proofs.FirstLiterals.{literals-begin, literals_end, literals-turn}
 use borrow.Author.Rules.{rules}
 use native.Mathlib.Omega.{arith}
@@ -12,10 +11,6 @@ bounds-literals-v c = omega (arith, c.loop-v.invariant.1.same)
 
 pub loop-v-preserved : goal.loop-v-preserved
 loop-v-preserved c = (search rules, literals-turn c.loop-v.invariant.1 c.loop-v-test.true (omega (arith, c.loop-v.invariant.1.same)))
-
--- SETTLED? Need-same-length
--- same_length : tie.Need-same-length invariant_loop decreases_loop
--- same_length c = c.before.loop.invariant.1.same
 
 pub returns : goal.returns
 returns c = literals_end c.loop-v.invariant.1 c.loop-v-test.false

@@ -1,7 +1,6 @@
 -- Each return is one edition; no loop.
 -- What is written is what the call that was made writes.
 use Rattle.load_model.specs.code.Paired.{second_literals}
-use borrow.Author.Rules.{rules}
 use borrow.Author.Tests.{eq-eqb, ne_eqb}
 use Rattle.load_inputs.proofs.write_second.Goals as goal
 
