@@ -1,5 +1,6 @@
 // The refusals of the evaluator: 10, 11, 12, 14, 16 and 17.
 #![tactic(auto)]
+
 ghost use Rattle.evaluate_model.specs.Evaluate.{all_digits?, call_tests, digit?, evaluate_tests, side?, unknown?};
 ghost use Rattle.table.specs.Accepted.{WellFormed};
 ghost use Rattle.table.specs.Refusals.{first_refusal};
