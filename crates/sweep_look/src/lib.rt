@@ -1,3 +1,4 @@
 // Whether a sweep ends: the two literals looked at.
 #![tactic(auto)]
+
 pub mod look;

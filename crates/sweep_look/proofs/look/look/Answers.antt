@@ -8,9 +8,10 @@ use Rattle.sweep_look.proofs.look.look.Goals as goal
 pub look_at-requires : goal.look_at-requires
 look_at-requires c =
     let need = c.requires in
-    let t =
-        rw (c.resolve-l.ensures, c.resolve-r.ensures) ((need.left-diagram, need.left-stage), (need.right-diagram, need.right-stage)) in
-    record { first = t.0; second = t.1 }
+    record {
+      first = rw c.resolve-l.ensures (need.left_diagram, need.left-stage);
+      second = rw c.resolve-r.ensures (need.right_diagram, need.right-stage);
+    }
 
 pub returns : goal.returns
 returns c =
