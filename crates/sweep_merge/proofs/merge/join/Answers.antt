@@ -1,7 +1,6 @@
 -- Which vertex is the higher decides; no loop.
 -- One law for each way.
 use Rattle.sweep_merge.proofs.MeetLaws.{joined_down, joined-up}
-use borrow.Author.Rules.{rules}
 use Rattle.sweep_merge.proofs.merge.join.Goals as goal
 
 pub returns-then-v-w : goal.returns-then-v-w
