@@ -1,5 +1,6 @@
 // The evaluator: the value of one side's output on a setting.
 #![tactic(auto)]
+
 mod values;
 
 ghost use Rattle.evaluate_model.specs.Evaluate.{Kept, answer_of, evaluation};

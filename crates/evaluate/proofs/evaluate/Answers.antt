@@ -6,9 +6,9 @@ use Rattle.evaluate.proofs.evaluate.Goals as goal
 
 pub returns-then-number-ne0 : goal.returns-then-number-ne0
 returns-then-number-ne0 c = record {
-      result_value = refusal_answers _ _ _ _ _ _ c.first_refusal-number.ensures c.if-number-ne0.true;
-      kept = refl;
-    }
+  result_value = refusal_answers _ _ _ _ _ _ c.first_refusal-number.ensures c.if-number-ne0.true;
+  kept = refl;
+}
 
 pub output_value-requires : goal.output_value-requires
 output_value-requires c = ready _ _ _ _ _ (sym c.first_refusal-number.ensures ∙ c.if-number-ne0.false)

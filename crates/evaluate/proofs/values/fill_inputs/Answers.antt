@@ -1,9 +1,8 @@
-use Prim.Native.Nat.{◌+◌, ◌-◌, ◌<◌}
+use Prim.Native.Nat.{◌+◌, ◌<◌}
 use Rattle.evaluate_model.proofs.DigitLaws.{digit_at, digits_end, digits_step}
 use borrow.Author.Rules.{rules}
 use lib.ListN.{length, length-set}
 use lib.Seq.{take-suc-set}
-use mathlib.Core.Bool.{false}
 use mathlib.Core.Path.{◌∙◌, refl, sym}
 use native.Mathlib.Omega.{arith}
 use Rattle.evaluate.proofs.values.fill_inputs.Goals as goal
@@ -26,10 +25,6 @@ loop-i-preserved c =
     let taken = c.loop-i-test.true in
     let byte = digit_at _ _ c.requires.setting_value taken in
     (search rules, length-set loop.values (loop.i + 1) _ ∙ loop.invariant.1, sym (digits_step _ _ _ _ lt taken byte.number) ∙ loop.invariant.2)
-
--- SETTLED? Need-same-length
--- same_length : tie.Need-same-length invariant_loop decreases_loop
--- same_length c = c.before.loop.invariant.1 ∙ length-set c.before.before.args.values.now 0 0
 
 pub returns : goal.returns
 returns c = sym (digits_end _ _ _ c.loop-i-test.false c.loop-i.invariant.0) ∙ c.loop-i.invariant.2

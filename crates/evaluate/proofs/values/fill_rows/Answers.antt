@@ -1,4 +1,4 @@
-use Prim.Native.Nat.{◌-◌, ◌<◌}
+use Prim.Native.Nat.{◌<◌}
 use Rattle.evaluate_model.proofs.NumberLaws.{bits_ahead, values_end, values_step}
 use Rattle.table.proofs.AcceptedLaws.{row_words-below}
 use Rattle.table.specs.Table.{rows_of, vertices_of}

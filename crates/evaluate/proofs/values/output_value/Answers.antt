@@ -16,8 +16,10 @@ pub literal_value-requires : goal.literal_value-requires
 literal_value-requires c =
     let ready = c.requires in
     let found = all-values ready _ _ c.fill_inputs.ensures c.fill_rows.ensures in
-    rw c.output_literal-literal.ensures (output-vertex ready _ found (search rules), output-bit ready _ found)
--- FIELDS literal_in_bounds literal_bound
+    rw c.output_literal-literal.ensures (record {
+      literal_in_bounds = output-vertex ready _ found (search rules);
+      literal_bound = output-bit ready _ found;
+    })
 
 pub returns : goal.returns
 returns c =

@@ -7,32 +7,28 @@ use Rattle.evaluate.proofs.values.row_value.Goals as goal
 
 pub literal_value-requires : goal.literal_value-requires
 literal_value-requires c =
-    let pre = c.requires in
-    let below = pre.1.1.0 in record {
+    let below = c.requires.row_below in record {
       literal_in_bounds = omega (arith, below.first);
-      literal_bound = vertex-bit _ _ _ below.first pre.1.1.1;
+      literal_bound = vertex-bit _ _ _ below.first c.requires.bits;
     }
 
 pub literal_value-requires-2 : goal.literal_value-requires-2
 literal_value-requires-2 c =
-    let pre = c.requires in
-    let below = pre.1.1.0 in record {
+    let below = c.requires.row_below in record {
       literal_in_bounds = omega (arith, below.second);
-      literal_bound = vertex-bit _ _ _ below.second pre.1.1.1;
+      literal_bound = vertex-bit _ _ _ below.second c.requires.bits;
     }
 
 pub overflow_mul-result : goal.overflow_mul-result
 overflow_mul-result c =
-    let pre = c.requires in
-    let below = pre.1.1.0 in
-    let x = read _ _ _ _ below.first pre.1.1.1 c.literal_value.ensures in
-    let y = read _ _ _ _ below.second pre.1.1.1 c.literal_value-2.ensures in
+    let below = c.requires.row_below in
+    let x = read _ _ _ _ below.first c.requires.bits c.literal_value.ensures in
+    let y = read _ _ _ _ below.second c.requires.bits c.literal_value-2.ensures in
     omega (arith, numbers.good-both _ _ x.bound y.bound)
 
 pub returns : goal.returns
 returns c =
-    let pre = c.requires in
-    let below = pre.1.1.0 in
-    let x = read _ _ _ _ below.first pre.1.1.1 c.literal_value.ensures in
-    let y = read _ _ _ _ below.second pre.1.1.1 c.literal_value-2.ensures in
+    let below = c.requires.row_below in
+    let x = read _ _ _ _ below.first c.requires.bits c.literal_value.ensures in
+    let y = read _ _ _ _ below.second c.requires.bits c.literal_value-2.ensures in
     ap₂ ◌*◌ x.value y.value
