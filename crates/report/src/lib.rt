@@ -1,5 +1,6 @@
 // The lines that the program prints, as bytes.
 #![tactic(auto)]
+
 ghost use Rattle.std.specs.Prelude.{◌+◌, length};
 ghost use Rattle.report_format.specs.Report.{LINE_ROOM, Printed, head_line, refused_line, reply_line};
 

@@ -2,7 +2,6 @@
 -- There is no loop.
 use Rattle.report_format.proofs.LineLaws.{printed_line, printed-none}
 use Rattle.report_format.specs.Report.{LINE_ROOM, head_line}
-use borrow.Author.Rules.{rules}
 use native.Mathlib.Omega.{arith}
 use Rattle.report.proofs.write_head.Goals as goal
 

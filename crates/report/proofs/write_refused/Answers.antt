@@ -4,7 +4,6 @@ use Prim.Native.Nat.{◌+◌}
 use Rattle.report_format.proofs.LineLaws.{printed_line, printed-none, refused-parts}
 use Rattle.report_format.proofs.StoredLaws.{stored_next}
 use Rattle.report_format.specs.Report.{NUMBER_DIGITS}
-use borrow.Author.Rules.{rules}
 use native.Mathlib.Omega.{arith}
 use Rattle.report.proofs.write_refused.Goals as goal
 

@@ -4,7 +4,6 @@ use Prim.Native.Nat.{◌+◌}
 use Rattle.report_format.proofs.LineLaws.{printed_line, printed-none, reply-parts}
 use Rattle.report_format.proofs.StoredLaws.{stored_next}
 use Rattle.report_format.specs.Report.{NUMBER_DIGITS, WORD_LETTERS}
-use borrow.Author.Rules.{rules}
 use lib.ListN.{length}
 use native.Mathlib.Omega.{arith}
 use Rattle.report.proofs.write_reply.Goals as goal
