@@ -2,14 +2,11 @@
 -- One law, in every setting of the product.
 use Rattle.sweep_state.proofs.LookModel.{looks}
 use Rattle.sweep_step.proofs.MultiplyModel.{conclude-looked}
-use borrow.Author.Rules.{rules}
 use Rattle.sweep_step.proofs.multiply.conclude.Goals as goal
 
 pub settle-left-requires : goal.settle-left-requires
 settle-left-requires c =
-    let t =
-        c.requires in
-    record { ended = t.0; long = t.1 }
+    record { ended = c.requires.ended; long = c.requires.long }
 
 pub look-seen-requires : goal.look-seen-requires
 look-seen-requires c =

@@ -14,9 +14,9 @@ take_product-product-requires c = product-asked c.requires.due.on
 
 pub conclude-requires : goal.conclude-requires
 conclude-requires c = record {
-      ended = record { setting = _; ended = product-ended c.requires.due.on c.take_product-product.new.rows c.in-Done.is c.take_product-product.ensures (search rules) };
-      long = c.requires.long;
-    }
+  ended = record { setting = _; ended = product-ended c.requires.due.on c.take_product-product.new.rows c.in-Done.is c.take_product-product.ensures (search rules) };
+  long = c.requires.long;
+}
 
 pub overflow_sub-added : goal.overflow_sub-added
 overflow_sub-added c = omega (arith, (lacking-rows c.requires.due.on c.take_product-product.new.rows c.in-ShortOfRows.is c.take_product-product.ensures).0.1)
@@ -24,7 +24,7 @@ overflow_sub-added c = omega (arith, (lacking-rows c.requires.due.on c.take_prod
 pub break_off-requires : goal.break_off-requires
 break_off-requires c =
     let t =
-        lacking-rows c.requires.due.on c.take_product-product.new.rows c.in-ShortOfRows.is c.take_product-product.ensures in
+    lacking-rows c.requires.due.on c.take_product-product.new.rows c.in-ShortOfRows.is c.take_product-product.ensures in
     record { store = t.0; words = t.1 }
 
 pub overflow_sub-added-in-ShortOfSteps : goal.overflow_sub-added-in-ShortOfSteps
@@ -33,7 +33,7 @@ overflow_sub-added-in-ShortOfSteps c = omega (arith, (lacking-steps c.requires.d
 pub break_off-requires-in-ShortOfSteps : goal.break_off-requires-in-ShortOfSteps
 break_off-requires-in-ShortOfSteps c =
     let t =
-        lacking-steps c.requires.due.on c.take_product-product.new.rows c.in-ShortOfSteps.is c.take_product-product.ensures in
+    lacking-steps c.requires.due.on c.take_product-product.new.rows c.in-ShortOfSteps.is c.take_product-product.ensures in
     record { store = t.0; words = t.1 }
 
 pub returns-in-Done : goal.returns-in-Done
@@ -41,11 +41,11 @@ returns-in-Done c =
     let start = c.args in
     let taken = c.take_product-product in
     let concluded = c.conclude in
-    let long : length taken.new.1.1.0 ≡ length start.rows.now = search rules in
+    let long : length taken.new.rows ≡ length start.rows.now = search rules in
     multiply-concludes start.task start.v start.steps
     (workspace start.pairs.now (arrays start.diagrams.now start.stages.now start.rows.now start.marks.now))
-    (λ x d. product-ended d taken.new.1.1.0 c.in-Done.is taken.ensures long)
-    (workspace concluded.new.0 (arrays concluded.new.1.1.0 concluded.new.1.1.1.0 concluded.new.1.1.1.1.0 concluded.new.1.1.1.1.1.0))
+    (λ x d. product-ended d taken.new.rows c.in-Done.is taken.ensures long)
+    (workspace concluded.new.pairs (arrays concluded.new.diagrams concluded.new.stages concluded.new.rows concluded.new.marks))
     concluded.result concluded.ensures
 
 pub returns-in-ShortOfRows : goal.returns-in-ShortOfRows

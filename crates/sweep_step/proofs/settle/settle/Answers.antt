@@ -8,7 +8,7 @@ use Rattle.sweep_step.proofs.settle.settle.Goals as goal
 pub drop_vertex-requires : goal.drop_vertex-requires
 drop_vertex-requires c =
     let t =
-        settle_back c.requires.ended.ended c.size-measured.ensures in
+    settle_back c.requires.ended.ended c.size-measured.ensures in
     record { store = t.0; words = t.1 }
 
 pub returns-then-task-measured : goal.returns-then-task-measured
