@@ -28,8 +28,11 @@ below_more {m = m} h (netlist.AllBelow.next {r = r} l b) = let k : r < m = omega
 
 -- References to the first n vertices need only their literals.
 map_front : (literals : List ℕ) (n : ℕ) {rs : List ℕ} → AllBelow (2 * n) rs → map (literal_for literals) rs ≡ map (literal_for (take n literals)) rs
-map_front literals n netlist.AllBelow.none = refl
-map_front literals n (netlist.AllBelow.next {r = r} l b) = ap₂ ◌∷◌ (sym (literal-front literals n r l)) (map_front literals n b)
+map_front literals n {rs = rs} b = go (2 * n) rs refl b
+  where
+    go : (m : ℕ) (rs : List ℕ) → m ≡ 2 * n → AllBelow m rs → map (literal_for literals) rs ≡ map (literal_for (take n literals)) rs
+    go m [] e netlist.AllBelow.none = refl
+    go m (r ∷ rs) e (netlist.AllBelow.next l b) = ap₂ ◌∷◌ (sym (literal-front literals n r (omega (arith, l, e)))) (go m rs e b)
 
 module _ {file : List ℕ} {s : Summary} {d : Netlist} (h : HoldsNetlist file s d) where
   -- The counts of a file and their limits.

@@ -1,5 +1,6 @@
 // One file into the graph: its gates asked for, its outputs and its constraint as literals of the graph.
 #![tactic(auto)]
+
 ghost use Rattle.std.specs.Prelude.{◌*◌, ◌+◌, ◌<◌, ◌≤◌, drop, length, take, [], ◌∷◌, map, ◌≡◌};
 ghost use Rattle.aig.specs.Literal.{lit, vertex_of};
 ghost use Rattle.load_model.specs.Build.{ask_gates, literal_for};
@@ -85,7 +86,7 @@ fn ask_gates(
     requires lines { GatesAhead file.now start count first counts.asked }
     requires graph { Graph pairs.old look.old counts }
     requires room { first + count ≤ length literals.old }
-    ensures result { GatesPassed file.now start (trace literals.entry first pairs.entry counts) (trace literals.exit (first + count) pairs.exit result.counts) result.at }
+    ensures result { GatesPassed file.now start (trace literals.old first pairs.old counts) (trace literals.new (first + count) pairs.new result.counts) result.at }
     ensures graph { Graph pairs.new look.new result.counts }
 {
     let mut at = start;
@@ -146,7 +147,7 @@ fn ask_line(
     requires line { GateLine file.now at vertex counts.asked }
     requires graph { Graph pairs.old look.old counts }
     requires room { vertex < length literals.old }
-    ensures result { trace literals.exit (vertex + 1) pairs.exit result ≡ ask_gates (trace literals.entry vertex pairs.entry counts) (line_gates file.now at) }
+    ensures result { trace literals.new (vertex + 1) pairs.new result ≡ ask_gates (trace literals.old vertex pairs.old counts) (line_gates file.now at) }
     ensures graph { Graph pairs.new look.new result }
 {
     let found = lines::read_line(file, at);

@@ -1,4 +1,3 @@
-use Prim.Native.Nat.{◌-◌}
 use Rattle.load_file.proofs.Passing.{gates-begin, gates-due, gates-ended, gates-next, gates-passed}
 use mathlib.Core.Path.{refl}
 use native.Mathlib.Omega.{arith}
@@ -9,10 +8,10 @@ loop-vertex-init c = (gates-begin _ c.requires.lines, c.requires.graph, refl, re
 
 pub ask_line-counts-requires : goal.ask_line-counts-requires
 ask_line-counts-requires c = record {
-      line = gates-due c.loop-vertex.invariant.0 c.loop-vertex-test.true;
-      graph = c.loop-vertex.invariant.1;
-      room = omega (arith, c.loop-vertex.invariant.4, c.loop-vertex-test.true, c.requires.room);
-    }
+  line = gates-due c.loop-vertex.invariant.0 c.loop-vertex-test.true;
+  graph = c.loop-vertex.invariant.1;
+  room = omega (arith, c.loop-vertex.invariant.4, c.loop-vertex-test.true, c.requires.room);
+}
 
 pub line_end-at-requires : goal.line_end-at-requires
 line_end-at-requires c = gates-ended c.loop-vertex.invariant.0 c.loop-vertex-test.true
@@ -28,25 +27,13 @@ loop-vertex-preserved c =
     let i = c.loop-vertex.invariant in (
       rw c.line_end-at.ensures (gates-next i.0 c.loop-vertex-test.true c.ask_line-counts.ensures.result),
       c.ask_line-counts.ensures.graph,
-      omega (arith, i.2, c.pairs-1.given),
-      omega (arith, i.3, c.look-1.given),
-      omega (arith, i.4, c.literals-1.given),
+      omega (arith, i.2),
+      omega (arith, i.3),
+      omega (arith, i.4),
     )
-
--- SETTLED? Need-same-length
--- same_length : tie.Need-same-length invariant_loop decreases_loop
--- same_length c = c.before.loop.invariant.2
-
--- SETTLED? Need-same-length-2
--- same-length-2 : tie.Need-same-length-2 invariant_loop decreases_loop
--- same-length-2 c = c.before.loop.invariant.3
-
--- SETTLED? Need-same-length-3
--- same-length-3 : tie.Need-same-length-3 invariant_loop decreases_loop
--- same-length-3 c = c.before.loop.invariant.4
 
 pub returns : goal.returns
 returns c = record {
-      result = gates-passed c.loop-vertex.literals c.loop-vertex.pairs _ c.loop-vertex.invariant.0 c.loop-vertex-test.false;
-      graph = c.loop-vertex.invariant.1;
-    }
+  result = gates-passed c.loop-vertex.literals c.loop-vertex.pairs _ c.loop-vertex.invariant.0 c.loop-vertex-test.false;
+  graph = c.loop-vertex.invariant.1;
+}

@@ -1,14 +1,14 @@
 -- The line's gate is asked for and its literal stored; no loop.
 -- The line is a gate's, whose references are to vertices below it.
-use Rattle.load_file.proofs.Passing.{gate-due, gate-stored, none_of}
-use borrow.Author.Rules.{rules}
+use Rattle.load_file.proofs.Passing.{gate-due, gate-stored}
 use mathlib.Core.Path.{◌∙◌, sym}
 use native.Mathlib.Omega.{arith}
 use Rattle.load_file.proofs.ask_line.Goals as goal
 
 pub returns-in_default : goal.returns-in_default
-returns-in_default c = absurd (none_of (rw (c.read_line-found.ensures ∙ c.requires.line.this) at c.in-Gate.keys2) (λ h. omega arith) (λ h. omega arith) (λ h. omega arith) (λ h. omega arith) (λ h. omega arith))
--- FIELDS result graph
+returns-in_default c =
+    let g = c.requires.line.gate in
+    absurd (c.in_default.not-Gate g.op g.p g.q (c.read_line-found.ensures ∙ c.requires.line.this))
 
 pub literal_for-p-requires : goal.literal_for-p-requires
 literal_for-p-requires c = omega (arith, (gate-due c.requires.line (sym c.read_line-found.ensures ∙ c.in-Gate.is)).first_below, c.requires.room)
@@ -18,12 +18,12 @@ literal_for-q-requires c = omega (arith, (gate-due c.requires.line (sym c.read_l
 
 pub ask_gate-asked-requires : goal.ask_gate-asked-requires
 ask_gate-asked-requires c = record {
-      graph = c.requires.graph;
-      room = (gate-due c.requires.line (sym c.read_line-found.ensures ∙ c.in-Gate.is)).room;
-    }
+  graph = c.requires.graph;
+  room = (gate-due c.requires.line (sym c.read_line-found.ensures ∙ c.in-Gate.is)).room;
+}
 
 pub offset_bounds-literals-vertex : goal.offset_bounds-literals-vertex
-offset_bounds-literals-vertex c = omega (arith, c.requires.room, c.well-formed.1.1.1.1.0)
+offset_bounds-literals-vertex c = omega (arith, c.requires.room)
 
 pub bounds-literals-vertex : goal.bounds-literals-vertex
 bounds-literals-vertex c = omega (arith, c.requires.room)

@@ -1,4 +1,3 @@
-use Prim.Native.Nat.{◌-◌}
 use Rattle.load_file.proofs.Passing.{outputs-begin, outputs-due, outputs_end_lem, outputs-ended, outputs-next}
 use native.Mathlib.Omega.{arith}
 use Rattle.load_file.proofs.write_outputs.Goals as goal
@@ -10,7 +9,7 @@ pub output_literal-requires : goal.output_literal-requires
 output_literal-requires c = outputs-due c.loop-k.invariant c.loop-k-test.true
 
 pub offset_bounds-outputs-k : goal.offset_bounds-outputs-k
-offset_bounds-outputs-k c = omega (arith, c.loop-k-test.true, c.requires.room, c.well-formed.1.1.1.1.0)
+offset_bounds-outputs-k c = omega (arith, c.loop-k-test.true, c.requires.room)
 
 pub bounds-outputs-k : goal.bounds-outputs-k
 bounds-outputs-k c = omega (arith, c.loop-k.invariant.writing.same, c.loop-k-test.true, c.requires.room)
@@ -20,10 +19,6 @@ line_end-at-requires c = outputs-ended c.loop-k.invariant c.loop-k-test.true
 
 pub loop-k-preserved : goal.loop-k-preserved
 loop-k-preserved c = rw c.line_end-at.ensures (outputs-next c.loop-k.invariant c.loop-k-test.true _ c.output_literal.ensures (omega (arith, c.loop-k.invariant.writing.same, c.loop-k-test.true, c.requires.room)))
-
--- SETTLED? Need-same-length
--- same_length : tie.Need-same-length invariant_loop decreases_loop
--- same_length c = c.before.loop.invariant.writing.same
 
 pub returns : goal.returns
 returns c = outputs_end_lem c.loop-k.invariant c.loop-k-test.false

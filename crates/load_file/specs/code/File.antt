@@ -12,11 +12,10 @@ use Rattle.netlist_model.specs.code.Passing.{file_records}
 use Rattle.netlist_model.specs.declared.Record.TheVariants.{Constraint, Output}
 use Rattle.table.specs.Limits.{max_ands}
 use Rattle.text.specs.Split.{up_to}
-use Rattle.std.specs.Borrow.{Bor}
 
 -- The literals of a file's first n vertices, and the graph, in their slices.
-abbrev pub trace : Bor (List ℕ) → ℕ → Bor (List ℕ) → Counts → Traced
-trace literals n pairs counts = traced_of literals.now n pairs.now counts
+abbrev pub trace : List ℕ → ℕ → List ℕ → Counts → Traced
+trace literals n pairs counts = traced_of literals n pairs counts
 
 -- A file's output literals and then that of its constraint.
 abbrev pub with_constraint : FileBuilt → List ℕ
