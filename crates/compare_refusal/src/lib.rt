@@ -1,5 +1,6 @@
 // The refusals of compare: 10 to 15.
 #![tactic(auto)]
+
 ghost use Rattle.std.specs.Prelude.{◌<◌, ◌^◌, ◌++◌, ◌≡◌};
 ghost use Rattle.compare_model.specs.Compare.{beyond?, call_tests, limits_of, outside?, short_slice?};
 ghost use Rattle.compare_refusal.specs.code.Room.{room_of};
