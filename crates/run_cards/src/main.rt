@@ -1,12 +1,13 @@
 // The bench cards of `cards.txt` run: a line for each, `ok` or what is not as the card says, and how many passed.
 // The file's layout stands in tools/cards.py, which writes it.
 #![tactic(auto)]
-ghost use Rattle.std.specs.Prelude.{◌≤◌};
+
+ghost use Rattle.std.specs.Prelude.{IfOk, ◌≤◌};
 
 use comparer::{Limits, Reply};
-use libc::STDOUT_FILENO;
 use load::Loaded;
 use run_card_file::{field, number, number_at, number_count};
+use std::{fs, io};
 
 // The most vertices of a comparison: those of a table and the two next ones.
 const VERTICES: usize = load::MAX_VERTICES + compare_model::NEXT_VERTICES;
@@ -25,15 +26,12 @@ const MARK_BEFORE: u8 = 9;
 
 const SETTING_BEFORE: u8 = b'-';
 
-fn main() {
-    let mut bytes = io::large_buffer();
-    let file = os::open_read(b"cards.txt");
-    let end = io::read_full(file, &mut bytes);
-    libc::close(file);
-    run_cards(&bytes[..end]);
+fn main(rt: HostRuntime) -> io::Result<()> {
+    let bytes = fs::read(&rt, "cards.txt")?;
+    run_cards(&rt, &bytes)
 }
 
-fn run_cards(file: &[u8]) {
+fn run_cards(rt: &impl Print, file: &[u8]) -> io::Result<()> {
     let mut table = [WORD_BEFORE; load::MAX_TABLE];
     let mut pairs = [0u32; WORKING_ROOM];
     let mut look = [0u32; WORKING_ROOM];
@@ -45,6 +43,7 @@ fn run_cards(file: &[u8]) {
     let mut k = 0;
     while k < count {
         passed += run_card(
+            rt,
             run_card_file::card(file, k),
             &mut table,
             &mut pairs,
@@ -52,15 +51,16 @@ fn run_cards(file: &[u8]) {
             &mut diagrams,
             &mut stages,
             &mut rows,
-        );
+        )?;
         k += 1;
     }
-    io::print_decimal(STDOUT_FILENO, passed as u64);
-    io::write_all(STDOUT_FILENO, b" passed\n");
+    rt.print(passed)?;
+    rt.write_all(b" passed\n")
 }
 
 // Runs a card and prints its line. Gives back 1 where all is as the card says, else 0.
 fn run_card(
+    rt: &impl Print,
     card: &[u8],
     table: &mut [u32; load::MAX_TABLE],
     pairs: &mut [u32; WORKING_ROOM],
@@ -68,41 +68,42 @@ fn run_card(
     diagrams: &mut [u32; WORKING_ROOM],
     stages: &mut [u32; WORKING_ROOM],
     rows: &mut [u32; ROWS_ROOM],
-) -> usize
-    ensures { result ≤ 1 }
+) -> io::Result<usize>
+    ensures { IfOk result (λ passed. passed ≤ 1) }
 {
-    io::write_all(STDOUT_FILENO, field(card, 0));
-    io::write_all(STDOUT_FILENO, b":");
-    let is_loaded = load_card(card, table, pairs, look, diagrams, stages);
-    let is_compared = compare_card(card, table, pairs, look, diagrams, stages, rows);
-    let is_left = say(is_words(table, field(card, 11)), b" table");
+    rt.write_all(field(card, 0))?;
+    rt.write_all(b":")?;
+    let is_loaded = load_card(rt, card, table, pairs, look, diagrams, stages)?;
+    let is_compared = compare_card(rt, card, table, pairs, look, diagrams, stages, rows)?;
+    let is_left = say(rt, is_words(table, field(card, 11)), b" table")?;
     if is_loaded && is_compared && is_left {
-        io::write_all(STDOUT_FILENO, b" ok\n");
-        return 1;
+        rt.write_all(b" ok\n")?;
+        return Ok(1);
     }
-    io::write_all(STDOUT_FILENO, b"\n");
-    0
+    rt.write_all(b"\n")?;
+    Ok(0)
 }
 
 // Prints what is not as the card says.
-fn say(is_right: bool, name: &[u8]) -> bool {
+fn say(rt: &impl Print, is_right: bool, name: &[u8]) -> io::Result<bool> {
     if !is_right {
-        io::write_all(STDOUT_FILENO, name);
+        rt.write_all(name)?;
     }
-    is_right
+    Ok(is_right)
 }
 
 // Loads the card's files, if it has any.
 fn load_card(
+    rt: &impl Print,
     card: &[u8],
     table: &mut [u32; load::MAX_TABLE],
     pairs: &mut [u32; WORKING_ROOM],
     look: &mut [u32; WORKING_ROOM],
     literals: &mut [u32; WORKING_ROOM],
     outputs: &mut [u32; WORKING_ROOM],
-) -> bool {
+) -> io::Result<bool> {
     if field(card, 1).len() == 0 {
-        return true;
+        return Ok(true);
     }
     fill(table);
     let loaded = load::load(
@@ -115,8 +116,8 @@ fn load_card(
         outputs,
     );
     match loaded {
-        Loaded::Accepted { edition, tally } => true,
-        Loaded::Refused { number, file, line } => say(false, b" load"),
+        Loaded::Accepted { edition, tally } => Ok(true),
+        Loaded::Refused { number, file, line } => say(rt, false, b" load"),
     }
 }
 
@@ -130,6 +131,7 @@ fn fill(table: &mut [u32; load::MAX_TABLE]) {
 
 // Compares as the card asks, and judges the reply with its rows added, the setting and the marks.
 fn compare_card(
+    rt: &impl Print,
     card: &[u8],
     table: &mut [u32; load::MAX_TABLE],
     pairs: &mut [u32; WORKING_ROOM],
@@ -137,7 +139,7 @@ fn compare_card(
     diagrams: &mut [u32; WORKING_ROOM],
     stages: &mut [u32; WORKING_ROOM],
     rows: &mut [u32; ROWS_ROOM],
-) -> bool {
+) -> io::Result<bool> {
     let mut marks = [MARK_BEFORE; VERTICES];
     let mut setting = [SETTING_BEFORE; SETTING_ROOM];
     let output = number(field(card, 3));
@@ -153,11 +155,11 @@ fn compare_card(
         &mut marks,
         &mut setting,
     );
-    let is_reply = say(is_line(field(card, 7), output, reply), b" reply");
-    let is_added = say(has_added(reply, number(field(card, 8))), b" added");
-    let is_setting = say(starts_with(&setting, field(card, 9), 0), b" setting");
-    let is_marks = say(starts_with(&marks, field(card, 10), b'0'), b" marks");
-    is_reply && is_added && is_setting && is_marks
+    let is_reply = say(rt, is_line(field(card, 7), output, reply), b" reply")?;
+    let is_added = say(rt, has_added(reply, number(field(card, 8))), b" added")?;
+    let is_setting = say(rt, starts_with(&setting, field(card, 9), 0), b" setting")?;
+    let is_marks = say(rt, starts_with(&marks, field(card, 10), b'0'), b" marks")?;
+    Ok(is_reply && is_added && is_setting && is_marks)
 }
 
 fn limits_of(card: &[u8]) -> Limits {

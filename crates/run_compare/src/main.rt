@@ -3,11 +3,12 @@
 // The fields of a case: its name; the words at the table's front; the output; the size limit; the row limit; two numbers whose sum is the
 // step limit; the lengths lent of table, pairs, look, diagrams, stages, rows, marks and setting.
 #![tactic(auto)]
+
 ghost use Rattle.std.specs.Prelude.{◌≤◌};
 
 use comparer::{Cause, Limits, Reply};
-use libc::STDOUT_FILENO;
 use run_card_file::{field, number, number_at, number_count};
+use std::{fs, io};
 
 // The words of the largest table are 12,420, and the vertices of its comparison 6,211: one more of each.
 const TABLE_ROOM: usize = 12421;
@@ -43,25 +44,23 @@ struct Ends {
     setting: usize,
 }
 
-fn main() {
-    let mut bytes = io::large_buffer();
-    let file = os::open_read(b"cases.txt");
-    let end = io::read_full(file, &mut bytes);
-    libc::close(file);
-    run_cases(&bytes[..end]);
+fn main(rt: HostRuntime) -> io::Result<()> {
+    let bytes = fs::read(&rt, "cases.txt")?;
+    run_cases(&rt, &bytes)
 }
 
-fn run_cases(file: &[u8]) {
+fn run_cases(rt: &impl Print, file: &[u8]) -> io::Result<()> {
     let count = run_card_file::card_count(file);
     let mut k = 0;
     while k < count {
-        run_case(run_card_file::card(file, k));
+        run_case(rt, run_card_file::card(file, k))?;
         k += 1;
     }
+    Ok(())
 }
 
 // Makes the call that the case asks for, with the fronts of slices lent.
-fn run_case(case: &[u8]) {
+fn run_case(rt: &impl Print, case: &[u8]) -> io::Result<()> {
     let ends = ends_of(field(case, 6));
     let table_end = ends.table;
     let pairs_end = ends.pairs;
@@ -95,7 +94,7 @@ fn run_case(case: &[u8]) {
     let is_kept = are_kept(
         case, &table, &pairs, &look, &diagrams, &stages, &rows, &marks, &setting,
     );
-    show(field(case, 0), reply, is_kept);
+    show(rt, field(case, 0), reply, is_kept)
 }
 
 // The lengths that a case asks for.
@@ -207,34 +206,34 @@ fn are_bytes(bytes: &[u8], byte: u8) -> bool {
     is_same
 }
 
-fn say(text: &[u8]) {
-    io::write_all(STDOUT_FILENO, text);
+fn say(rt: &impl Print, text: &[u8]) -> io::Result<()> {
+    rt.write_all(text)
 }
 
-fn show(name: &[u8], reply: Reply, is_kept: bool) {
-    say(name);
+fn show(rt: &impl Print, name: &[u8], reply: Reply, is_kept: bool) -> io::Result<()> {
+    say(rt, name)?;
     match reply {
-        Reply::Refused(number) => show_refusal(number, is_kept),
-        Reply::Equal(_) => say(b": equal\n"),
-        Reply::Different(_) => say(b": different\n"),
-        Reply::Undecided(cause, _) => show_cause(cause),
+        Reply::Refused(number) => show_refusal(rt, number, is_kept),
+        Reply::Equal(_) => say(rt, b": equal\n"),
+        Reply::Different(_) => say(rt, b": different\n"),
+        Reply::Undecided(cause, _) => show_cause(rt, cause),
     }
 }
 
-fn show_refusal(number: u32, is_kept: bool) {
-    say(b": refused ");
-    io::print_decimal(STDOUT_FILENO, number as u64);
+fn show_refusal(rt: &impl Print, number: u32, is_kept: bool) -> io::Result<()> {
+    say(rt, b": refused ")?;
+    rt.print(number)?;
     if is_kept {
-        say(b", unchanged\n");
+        say(rt, b", unchanged\n")
     } else {
-        say(b", changed\n");
+        say(rt, b", changed\n")
     }
 }
 
-fn show_cause(cause: Cause) {
+fn show_cause(rt: &impl Print, cause: Cause) -> io::Result<()> {
     match cause {
-        Cause::Size => say(b": size\n"),
-        Cause::Rows(_) => say(b": rows\n"),
-        Cause::Steps(_) => say(b": steps\n"),
+        Cause::Size => say(rt, b": size\n"),
+        Cause::Rows(_) => say(rt, b": rows\n"),
+        Cause::Steps(_) => say(rt, b": steps\n"),
     }
 }

@@ -5,6 +5,7 @@
 // many pairs with r, and how often Equal was replied to outputs that differ on a setting that is not allowed; then a line for each kind of reply,
 // how many came, and how many answers were wrong.
 #![tactic(auto)]
+
 mod asked;
 mod circuit;
 mod compared;
@@ -17,6 +18,8 @@ mod rewrite;
 mod settings;
 mod tables;
 mod tally;
+
+use std::io;
 
 // How many pairs are drawn.
 const PAIRS: u32 = 600;
@@ -31,7 +34,7 @@ const ROWS: usize = 32768;
 const VERTICES: usize = load::MAX_VERTICES + compare_model::NEXT_VERTICES;
 
 // Draws the pairs, one after the other, and prints what came of them.
-fn main() {
+fn main(rt: HostRuntime) -> io::Result<()> {
     let mut table = [0u32; TABLE];
     let mut pairs = [0u32; TABLE];
     let mut look = [0u32; TABLE];
@@ -57,5 +60,5 @@ fn main() {
         );
         drawn += 1;
     }
-    tally::print(drawn, &tally);
+    tally::print(&rt, drawn, &tally)
 }

@@ -1,6 +1,6 @@
 // How many pairs had names, how many of these a cycle of three inputs, how many pairs had a constraint, how many replies were Equal only by it, how
 // many replies of each kind came, and how many answers were wrong.
-use libc::STDOUT_FILENO;
+use std::io;
 
 pub const KINDS: usize = 11;
 
@@ -39,29 +39,29 @@ pub fn hold(tally: &mut [u32; KINDS], holds: bool) {
 }
 
 // Prints how many pairs there were, and the counts of each kind.
-pub fn print(pairs: u32, tally: &[u32; KINDS]) {
-    print_line(b"pairs ", pairs);
-    print_kind(b"by name ", tally, BY_NAME);
-    print_kind(b"cycles of three ", tally, CYCLES);
-    print_kind(b"with r ", tally, CONSTRAINED);
-    print_kind(b"equal by r ", tally, EQUAL_BY_R);
-    print_kind(b"equal ", tally, EQUAL);
-    print_kind(b"different ", tally, DIFFERENT);
-    print_kind(b"size ", tally, SIZE);
-    print_kind(b"rows ", tally, ROWS);
-    print_kind(b"steps ", tally, STEPS);
-    print_kind(b"refused ", tally, REFUSED);
-    print_kind(b"wrong ", tally, WRONG);
+pub fn print(rt: &impl Print, pairs: u32, tally: &[u32; KINDS]) -> io::Result<()> {
+    print_line(rt, b"pairs ", pairs)?;
+    print_kind(rt, b"by name ", tally, BY_NAME)?;
+    print_kind(rt, b"cycles of three ", tally, CYCLES)?;
+    print_kind(rt, b"with r ", tally, CONSTRAINED)?;
+    print_kind(rt, b"equal by r ", tally, EQUAL_BY_R)?;
+    print_kind(rt, b"equal ", tally, EQUAL)?;
+    print_kind(rt, b"different ", tally, DIFFERENT)?;
+    print_kind(rt, b"size ", tally, SIZE)?;
+    print_kind(rt, b"rows ", tally, ROWS)?;
+    print_kind(rt, b"steps ", tally, STEPS)?;
+    print_kind(rt, b"refused ", tally, REFUSED)?;
+    print_kind(rt, b"wrong ", tally, WRONG)
 }
 
-fn print_kind(word: &[u8], tally: &[u32; KINDS], kind: usize) {
-    print_line(word, tally[kind % KINDS]);
+fn print_kind(rt: &impl Print, word: &[u8], tally: &[u32; KINDS], kind: usize) -> io::Result<()> {
+    print_line(rt, word, tally[kind % KINDS])
 }
 
-fn print_line(word: &[u8], number: u32) {
-    io::write_all(STDOUT_FILENO, word);
-    io::print_decimal(STDOUT_FILENO, wide(number));
-    io::write_all(STDOUT_FILENO, b"\n");
+fn print_line(rt: &impl Print, word: &[u8], number: u32) -> io::Result<()> {
+    rt.write_all(word)?;
+    rt.print(wide(number))?;
+    rt.write_all(b"\n")
 }
 
 fn wide(n: u32) -> u64 {

@@ -3,11 +3,12 @@
 // call: what was asked, and what came.
 // The fields of a call: its name; the table's words, none for the chain of the most vertices; side; output; setting; the working slice's bytes.
 #![tactic(auto)]
+
 ghost use Rattle.std.specs.Prelude.{◌≤◌, length, ◌≡◌};
 
 use evaluate::Evaluated;
-use libc::STDOUT_FILENO;
 use run_card_file::{field, number, number_at, number_count};
+use std::{fs, io};
 
 // The vertices of the largest table: the constant, 64 inputs, 6,144 made.
 const MOST_VERTICES: usize = 6209;
@@ -22,22 +23,30 @@ fn no_values() -> [u8; MOST_VERTICES]
 }
 
 // One call, with a working slice of `room` bytes.
-fn show(asked: &[u8], table: &[u32], side: u32, output: u32, setting: &[u8], room: usize)
+fn show(
+    rt: &impl Print,
+    asked: &[u8],
+    table: &[u32],
+    side: u32,
+    output: u32,
+    setting: &[u8],
+    room: usize,
+) -> io::Result<()>
     requires { room ≤ 6209 }
 {
     let mut values = no_values();
-    io::write_all(STDOUT_FILENO, asked);
+    rt.write_all(asked)?;
     match evaluate::evaluate(table, side, output, setting, &mut values[..room]) {
         Evaluated::Value(value) => {
-            io::write_all(STDOUT_FILENO, b": value ");
-            io::print_decimal(STDOUT_FILENO, value as u64);
+            rt.write_all(b": value ")?;
+            rt.print(value as u64)?;
         }
         Evaluated::Refused(number) => {
-            io::write_all(STDOUT_FILENO, b": refused ");
-            io::print_decimal(STDOUT_FILENO, number as u64);
+            rt.write_all(b": refused ")?;
+            rt.print(number as u64)?;
         }
     }
-    io::write_all(STDOUT_FILENO, b"\n");
+    rt.write_all(b"\n")
 }
 
 // The row of each made vertex: the inversion of the vertex before it, and input 1. The outputs are the last vertex and its inversion. So from
@@ -97,32 +106,31 @@ fn part(table: &[u32], length: usize) -> &[u32] {
 }
 
 // The call of a card.
-fn show_card(card: &[u8]) {
+fn show_card(rt: &impl Print, card: &[u8]) -> io::Result<()> {
     let mut table = [0u32; MOST_WORDS];
     let end = write_table(field(card, 1), &mut table);
     show(
+        rt,
         field(card, 0),
         front(&table, end),
         number(field(card, 2)),
         number(field(card, 3)),
         field(card, 4),
         at_most(number(field(card, 5)) as usize, MOST_VERTICES),
-    );
+    )
 }
 
-fn show_cards(file: &[u8]) {
+fn show_cards(rt: &impl Print, file: &[u8]) -> io::Result<()> {
     let count = run_card_file::card_count(file);
     let mut k = 0;
     while k < count {
-        show_card(run_card_file::card(file, k));
+        show_card(rt, run_card_file::card(file, k))?;
         k += 1;
     }
+    Ok(())
 }
 
-fn main() {
-    let mut bytes = io::large_buffer();
-    let file = os::open_read(b"calls.txt");
-    let end = io::read_full(file, &mut bytes);
-    libc::close(file);
-    show_cards(&bytes[..end]);
+fn main(rt: HostRuntime) -> io::Result<()> {
+    let bytes = fs::read(&rt, "calls.txt")?;
+    show_cards(&rt, &bytes)
 }

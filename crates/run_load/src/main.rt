@@ -4,13 +4,14 @@
 // The fields of a pair, from the second on: its name; both drawing files; how many words of the table are shown; for each file, where it is
 // made here, the numbers that it is made of; and how many words short of the largest pair the table and the working slices are.
 #![tactic(auto)]
+
 mod file;
 
 ghost use Rattle.std.specs.Prelude.{◌≤◌};
 
-use libc::STDOUT_FILENO;
 use load::Loaded;
 use run_card_file::{field, number, number_at};
+use std::{fs, io};
 
 // The words of the longest table, and those of each working slice.
 const TABLE: usize = 12420;
@@ -27,38 +28,37 @@ struct Ends {
     outputs: usize,
 }
 
-fn main() {
-    let mut bytes = io::large_buffer();
-    let file = os::open_read(b"pairs.txt");
-    let end = io::read_full(file, &mut bytes);
-    libc::close(file);
-    show_cards(&bytes[..end]);
+fn main(rt: HostRuntime) -> io::Result<()> {
+    let bytes = fs::read(&rt, "pairs.txt")?;
+    show_cards(&rt, &bytes)
 }
 
-fn show_cards(file: &[u8]) {
+fn show_cards(rt: &impl Print, file: &[u8]) -> io::Result<()> {
     let count = run_card_file::card_count(file);
     let mut k = 0;
     while k < count {
-        show_card(run_card_file::card(file, k));
+        show_card(rt, run_card_file::card(file, k))?;
         k += 1;
     }
+    Ok(())
 }
 
 // Makes the files of a card.
-fn show_card(card: &[u8]) {
+fn show_card(rt: &impl Print, card: &[u8]) -> io::Result<()> {
     let mut left = [b'\n'; file::BYTES];
     let mut right = [b'\n'; file::BYTES];
     let left_end = file::write(&mut left, field(card, 2), field(card, 5));
     let right_end = file::write(&mut right, field(card, 3), field(card, 6));
     show_pair(
+        rt,
         card,
         file::front(&left, left_end),
         file::front(&right, right_end),
-    );
+    )
 }
 
 // Loads a pair into slices that may be short, and shows what came.
-fn show_pair(card: &[u8], left: &[u8], right: &[u8]) {
+fn show_pair(rt: &impl Print, card: &[u8], left: &[u8], right: &[u8]) -> io::Result<()> {
     let ends = ends_of(field(card, 7));
     let table_end = ends.table;
     let pairs_end = ends.pairs;
@@ -79,8 +79,8 @@ fn show_pair(card: &[u8], left: &[u8], right: &[u8]) {
         &mut literals[..literals_end],
         &mut outputs[..outputs_end],
     );
-    show(field(card, 1), loaded);
-    print_words(&table, number(field(card, 4)) as usize);
+    show(rt, field(card, 1), loaded)?;
+    print_words(rt, &table, number(field(card, 4)) as usize)
 }
 
 fn ends_of(short: &[u8]) -> Ends
@@ -108,38 +108,38 @@ fn at_most(n: usize, most: usize) -> usize
     if n <= most { n } else { most }
 }
 
-fn show(name: &[u8], loaded: Loaded) {
-    io::write_all(STDOUT_FILENO, name);
+fn show(rt: &impl Print, name: &[u8], loaded: Loaded) -> io::Result<()> {
+    rt.write_all(name)?;
     match loaded {
         Loaded::Accepted { edition, tally } => {
-            print(b": edition ", edition);
-            print(b" asked ", tally.asked);
-            print(b" folded ", tally.folded);
-            print(b" found ", tally.found);
-            print(b" made ", tally.made);
+            print(rt, b": edition ", edition)?;
+            print(rt, b" asked ", tally.asked)?;
+            print(rt, b" folded ", tally.folded)?;
+            print(rt, b" found ", tally.found)?;
+            print(rt, b" made ", tally.made)?;
         }
         Loaded::Refused { number, file, line } => {
-            print(b": refused ", number);
-            print(b" file ", file);
-            print(b" line ", line);
+            print(rt, b": refused ", number)?;
+            print(rt, b" file ", file)?;
+            print(rt, b" line ", line)?;
         }
     }
-    io::write_all(STDOUT_FILENO, b"\n");
+    rt.write_all(b"\n")
 }
 
-fn print(name: &[u8], number: u32) {
-    io::write_all(STDOUT_FILENO, name);
-    io::print_decimal(STDOUT_FILENO, number as u64);
+fn print(rt: &impl Print, name: &[u8], number: u32) -> io::Result<()> {
+    rt.write_all(name)?;
+    rt.print(number)
 }
 
 // The first words, or all.
-fn print_words(words: &[u32; TABLE], count: usize) {
-    io::write_all(STDOUT_FILENO, b"  table");
+fn print_words(rt: &impl Print, words: &[u32; TABLE], count: usize) -> io::Result<()> {
+    rt.write_all(b"  table")?;
     let end = at_most(count, TABLE);
     let mut i = 0;
     while i < end {
-        print(b" ", words[i]);
+        print(rt, b" ", words[i])?;
         i += 1;
     }
-    io::write_all(STDOUT_FILENO, b"\n");
+    rt.write_all(b"\n")
 }

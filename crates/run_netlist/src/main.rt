@@ -1,12 +1,13 @@
 // The checker on good and on damaged drawing files, those of `files.txt` and the longest. A line for each: what the file is, and what came; a C
 // line's reference where it is not 1.
 #![tactic(auto)]
+
 ghost use Rattle.std.specs.Prelude.{◌<◌, ◌≤◌, length};
 
-use libc::STDOUT_FILENO;
 use netlist::{Checked, check};
 use netlist_model::Role;
 use run_card_file::{field, number};
+use std::{fs, io};
 
 // The bytes of the longest good file of edition 1 without a C line: line 1, 436 and 3,660 gate lines, 64 output lines.
 const WITHOUT: usize = 65127;
@@ -14,50 +15,52 @@ const WITHOUT: usize = 65127;
 // And with one.
 const LONGEST: usize = 65134;
 
-fn show(name: &[u8], file: &[u8], role: Role) {
-    io::write_all(STDOUT_FILENO, name);
+fn show(rt: &impl Print, name: &[u8], file: &[u8], role: Role) -> io::Result<()> {
+    rt.write_all(name)?;
     match check::check_file(file, role) {
         Checked::Accepted(summary) => {
-            print(b": accepted, edition ", summary.edition as u64);
-            print(b" inputs ", summary.inputs as u64);
-            print(b" names ", summary.names as u64);
-            print(b" gates ", summary.gates as u64);
-            print(b" outputs ", summary.outputs as u64);
-            print(b" ands ", summary.ands as u64);
+            print(rt, b": accepted, edition ", summary.edition as u64)?;
+            print(rt, b" inputs ", summary.inputs as u64)?;
+            print(rt, b" names ", summary.names as u64)?;
+            print(rt, b" gates ", summary.gates as u64)?;
+            print(rt, b" outputs ", summary.outputs as u64)?;
+            print(rt, b" ands ", summary.ands as u64)?;
             if summary.reference != 1 {
-                print(b" reference ", summary.reference as u64);
+                print(rt, b" reference ", summary.reference as u64)?;
             }
-            print(b" start ", summary.start as u64);
+            print(rt, b" start ", summary.start as u64)?;
         }
         Checked::Refused { number, line } => {
-            print(b": refused ", number as u64);
-            print(b" line ", line as u64);
+            print(rt, b": refused ", number as u64)?;
+            print(rt, b" line ", line as u64)?;
         }
     }
-    io::write_all(STDOUT_FILENO, b"\n");
+    rt.write_all(b"\n")
 }
 
-fn print(name: &[u8], number: u64) {
-    io::write_all(STDOUT_FILENO, name);
-    io::print_decimal(STDOUT_FILENO, number);
+fn print(rt: &impl Print, name: &[u8], number: u64) -> io::Result<()> {
+    rt.write_all(name)?;
+    rt.print(number)
 }
 
 // The files of `files.txt`, a card each: a name, the file and, where it is a second file, the edition of the first.
-fn show_cards(file: &[u8]) {
+fn show_cards(rt: &impl Print, file: &[u8]) -> io::Result<()> {
     let count = run_card_file::card_count(file);
     let mut k = 0;
     while k < count {
-        show_card(run_card_file::card(file, k));
+        show_card(rt, run_card_file::card(file, k))?;
         k += 1;
     }
+    Ok(())
 }
 
-fn show_card(card: &[u8]) {
+fn show_card(rt: &impl Print, card: &[u8]) -> io::Result<()> {
     show(
+        rt,
         field(card, 0),
         field(card, 1),
         role_of(number(field(card, 2))),
-    );
+    )
 }
 
 // The role of a file, by the edition of the first file; 0 where it is the first itself.
@@ -69,30 +72,31 @@ fn role_of(edition: u32) -> Role {
 }
 
 // Writes the longest good file of edition 1, and shows it without its C line and with it.
-fn longest() {
+fn longest(rt: &impl Print) -> io::Result<()> {
     let mut file = [0u8; LONGEST];
     repeat(b"N\t1\t64\t4096\t64\n", &mut file, 0, 15);
     repeat(b"G\txor\t129\t129\n", &mut file, 15, 6119);
     repeat(b"G\txor\t1001\t1001\n", &mut file, 6119, 64679);
     repeat(b"O\t8321\n", &mut file, 64679, WITHOUT);
     repeat(b"C\t8321\n", &mut file, WITHOUT, LONGEST);
-    show_longest(&file);
+    show_longest(rt, &file)
 }
 
-fn show_longest(file: &[u8; LONGEST]) {
-    show_front(b"the longest good file of edition 1", file, WITHOUT);
+fn show_longest(rt: &impl Print, file: &[u8; LONGEST]) -> io::Result<()> {
+    show_front(rt, b"the longest good file of edition 1", file, WITHOUT)?;
     show_front(
+        rt,
         b"the longest good file of edition 1, with a C line",
         file,
         LONGEST,
-    );
+    )
 }
 
 // The checker on the bytes before `end`.
-fn show_front(name: &[u8], file: &[u8], end: usize)
+fn show_front(rt: &impl Print, name: &[u8], file: &[u8], end: usize) -> io::Result<()>
     requires { end ≤ length file.now }
 {
-    show(name, &file[..end], Role::First);
+    show(rt, name, &file[..end], Role::First)
 }
 
 // Writes a line again and again from `from` up to `to`.
@@ -107,11 +111,8 @@ fn repeat(line: &[u8], file: &mut [u8; LONGEST], from: usize, to: usize)
     }
 }
 
-fn main() {
-    let mut bytes = io::large_buffer();
-    let file = os::open_read(b"files.txt");
-    let end = io::read_full(file, &mut bytes);
-    libc::close(file);
-    show_cards(&bytes[..end]);
-    longest();
+fn main(rt: HostRuntime) -> io::Result<()> {
+    let bytes = fs::read(&rt, "files.txt")?;
+    show_cards(&rt, &bytes)?;
+    longest(&rt)
 }

@@ -2,6 +2,7 @@
 // A line for each circuit: its name, the size of the last vertex made, rows and steps with their limits, the limit passed if any, and whether all values agree.
 // The file's layout stands in tools/circuits.py, which writes it.
 #![tactic(auto)]
+
 mod circuit;
 mod diagram;
 mod values;
@@ -11,8 +12,8 @@ ghost use Rattle.bdd.specs.code.Store.{Store};
 
 use circuit::{VERTICES, WORDS};
 use diagram::Turn;
-use libc::STDOUT_FILENO;
 use run_card_file::{card, card_count, field, number};
+use std::{fs, io};
 
 // Room for 1,024 rows.
 const ROOM: usize = 4096;
@@ -25,35 +26,43 @@ const MAX_INPUTS: usize = 10;
 
 const MAX_SETTINGS: usize = 1024;
 
-fn print(what: &[u8], x: usize) {
-    io::write_all(STDOUT_FILENO, what);
-    io::print_decimal(STDOUT_FILENO, x as u64);
+fn print(rt: &impl Print, what: &[u8], x: usize) -> io::Result<()> {
+    rt.write_all(what)?;
+    rt.print(x)
 }
 
 // The limit passed, if any, and whether all values agree.
-fn verdict(end: usize, wrong: usize) {
+fn verdict(rt: &impl Print, end: usize, wrong: usize) -> io::Result<()> {
     if end == 1 {
-        io::write_all(STDOUT_FILENO, b", short of rows");
+        rt.write_all(b", short of rows")?;
     }
     if end == 2 {
-        io::write_all(STDOUT_FILENO, b", short of steps");
+        rt.write_all(b", short of steps")?;
     }
     if wrong == 0 {
-        io::write_all(STDOUT_FILENO, b", ok\n");
+        rt.write_all(b", ok\n")
     } else {
-        io::write_all(STDOUT_FILENO, b", WRONG\n");
+        rt.write_all(b", WRONG\n")
     }
 }
 
 // How far a circuit came, against its limits.
-fn show(name: &[u8], size: usize, t: Turn, limit: usize, most: usize, wrong: usize) {
-    io::write_all(STDOUT_FILENO, name);
-    print(b": size ", size);
-    print(b", rows ", t.used);
-    print(b" of ", limit);
-    print(b", steps ", t.steps);
-    print(b" of ", most);
-    verdict(t.end, wrong);
+fn show(
+    rt: &impl Print,
+    name: &[u8],
+    size: usize,
+    t: Turn,
+    limit: usize,
+    most: usize,
+    wrong: usize,
+) -> io::Result<()> {
+    rt.write_all(name)?;
+    print(rt, b": size ", size)?;
+    print(rt, b", rows ", t.used)?;
+    print(rt, b" of ", limit)?;
+    print(rt, b", steps ", t.steps)?;
+    print(rt, b" of ", most)?;
+    verdict(rt, t.end, wrong)
 }
 
 fn no_references() -> [usize; VERTICES]
@@ -64,6 +73,7 @@ fn no_references() -> [usize; VERTICES]
 
 // One circuit of n vertices; its rows are given back at the end.
 fn run(
+    rt: &impl Print,
     name: &[u8],
     rows: &mut [u32],
     limit: usize,
@@ -72,7 +82,7 @@ fn run(
     settings: usize,
     words: &[usize; WORDS],
     n: usize,
-)
+) -> io::Result<()>
     requires store { Store rows.old limit 0 }
     requires few { (inputs ≤ 10) × (settings ≤ 1024) × (n ≤ 128) × (most < 2 ^ 32) }
     ensures { Store rows.new limit 0 }
@@ -83,8 +93,9 @@ fn run(
     let wrong = values::mismatches(rows, inputs, settings, &references, words, t.next);
     let last = t.next - 1;
     let size = bdd_size::size(rows, t.used, limit, references[last]);
-    show(name, size, t, limit, most, wrong);
+    let shown = show(rt, name, size, t, limit, most, wrong);
     bdd_unique::give_back(rows, t.used, limit, 0);
+    shown
 }
 
 // The number in a field of a card, or the most.
@@ -111,20 +122,22 @@ fn set_limit(rows: &mut [u32], limit: usize, next: usize)
     }
 }
 
-// Runs the circuit of a card and gives back its limit on rows. Under the limit of the card before it uses the rows again that were given back.
-fn run_card(card: &[u8], rows: &mut [u32], limit: usize) -> usize
-    requires store { Store rows.old limit 0 }
+// Runs the circuit of a card under its limit on rows. Under the limit of the card before it uses the rows again that were given back.
+fn run_card(rt: &impl Print, card: &[u8], rows: &mut [u32], limit: &mut usize) -> io::Result<()>
+    requires store { Store rows.old limit.old 0 }
     requires room { 4096 ≡ length rows.old }
-    ensures { Store rows.new result 0 }
+    ensures { Store rows.new limit.new 0 }
 {
     let next = number_in(card, 1, MAX_ROWS);
-    set_limit(rows, limit, next);
+    set_limit(rows, *limit, next);
+    *limit = next;
     let most = number_in(card, 2, MAX_STEPS);
     let inputs = number_in(card, 3, MAX_INPUTS);
     let settings = number_in(card, 4, MAX_SETTINGS);
     let mut words = [0usize; WORDS];
     let n = circuit::read(field(card, 6), &mut words);
     run(
+        rt,
         field(card, 0),
         rows,
         next,
@@ -133,12 +146,11 @@ fn run_card(card: &[u8], rows: &mut [u32], limit: usize) -> usize
         settings,
         &words,
         n,
-    );
-    next
+    )
 }
 
 // Runs the cards one after the other.
-fn run_cards(file: &[u8], rows: &mut [u32])
+fn run_cards(rt: &impl Print, file: &[u8], rows: &mut [u32]) -> io::Result<()>
     requires { 4096 ≡ length rows.old }
 {
     bdd_unique::clear(rows, MAX_ROWS);
@@ -146,9 +158,10 @@ fn run_cards(file: &[u8], rows: &mut [u32])
     let mut limit = MAX_ROWS;
     let mut k = 0;
     while k < count {
-        limit = run_card(card(file, k), rows, limit);
+        run_card(rt, card(file, k), rows, &mut limit)?;
         k += 1;
     }
+    Ok(())
 }
 
 fn no_rows() -> [u32; ROOM]
@@ -157,11 +170,8 @@ fn no_rows() -> [u32; ROOM]
     [0; ROOM]
 }
 
-fn main() {
-    let mut bytes = io::large_buffer();
+fn main(rt: HostRuntime) -> io::Result<()> {
+    let bytes = fs::read(&rt, "circuits.txt")?;
     let mut rows = no_rows();
-    let file = os::open_read(b"circuits.txt");
-    let end = io::read_full(file, &mut bytes);
-    libc::close(file);
-    run_cards(&bytes[..end], &mut rows);
+    run_cards(&rt, &bytes, &mut rows)
 }

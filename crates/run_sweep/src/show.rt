@@ -6,7 +6,7 @@ ghost use Rattle.sweep_state.specs.code.Ending.{Refers};
 
 use crate::asked::MAX_INPUTS;
 use bdd::difference::first_difference;
-use libc::STDOUT_FILENO;
+use std::io;
 use sweep_graph::words::{first_word, second_word};
 use sweep_model::{Counts, Reply};
 use sweep_state::end::{End, Ended};
@@ -15,7 +15,13 @@ use sweep_state::task::Task;
 const LINE_ROOM: usize = report_format::LINE_ROOM + MAX_INPUTS;
 
 // The reply's line without its end, a tab, and the rows added.
-pub fn show_reply(list: u32, ended: Ended, rows: &[u32], task: Task)
+pub fn show_reply(
+    rt: &impl Print,
+    list: u32,
+    ended: Ended,
+    rows: &[u32],
+    task: Task,
+) -> io::Result<()>
     requires store { Store rows.now task.rows ended.used }
     requires references { Refers rows.now ended.used task.inputs ended.end }
     requires counted { (ended.steps < 2 ^ 32) × (ended.added < 2 ^ 32) }
@@ -27,12 +33,20 @@ pub fn show_reply(list: u32, ended: Ended, rows: &[u32], task: Task)
         added: ended.added as u32,
     };
     let end = ended.end;
-    show_end(list, end, counts, rows, ended.used, task);
-    show_number(b"\t", counts.added);
+    show_end(rt, list, end, counts, rows, ended.used, task)?;
+    show_number(rt, b"\t", counts.added)
 }
 
 // A Different has the first setting on which the two functions differ; where these are inverse, all inputs are 0.
-fn show_end(list: u32, end: End, counts: Counts, rows: &[u32], used: usize, task: Task)
+fn show_end(
+    rt: &impl Print,
+    list: u32,
+    end: End,
+    counts: Counts,
+    rows: &[u32],
+    used: usize,
+    task: Task,
+) -> io::Result<()>
     requires store { Store rows.now task.rows used }
     requires references { Refers rows.now used task.inputs end }
     requires narrow { task.inputs ≤ INPUTS }
@@ -40,13 +54,13 @@ fn show_end(list: u32, end: End, counts: Counts, rows: &[u32], used: usize, task
     let mut setting = zeros();
     let inputs = task.inputs;
     match end {
-        End::Equal => show_line(list, Reply::Equal(counts), b""),
-        End::Inverse => show_line(list, Reply::Different(counts), &setting[..inputs]),
+        End::Equal => show_line(rt, list, Reply::Equal(counts), b""),
+        End::Inverse => show_line(rt, list, Reply::Different(counts), &setting[..inputs]),
         End::Differ(f, g) => {
             first_difference(rows, used, task.rows, inputs, f, g, &mut setting);
-            show_line(list, Reply::Different(counts), &setting[..inputs]);
+            show_line(rt, list, Reply::Different(counts), &setting[..inputs])
         }
-        End::Undecided(cause) => show_line(list, Reply::Undecided(cause, counts), b""),
+        End::Undecided(cause) => show_line(rt, list, Reply::Undecided(cause, counts), b""),
     }
 }
 
@@ -56,44 +70,46 @@ fn zeros() -> [u8; MAX_INPUTS]
     [b'0'; MAX_INPUTS]
 }
 
-fn show_line(list: u32, reply: Reply, setting: &[u8]) {
+fn show_line(rt: &impl Print, list: u32, reply: Reply, setting: &[u8]) -> io::Result<()> {
     let mut line = [0u8; LINE_ROOM];
     let end = reply_line::write_line(&mut line, netlist_model::BY_PLACE, list, reply, setting);
     if 0 < end {
-        io::write_all(STDOUT_FILENO, &line[..end - 1]);
+        rt.write_all(&line[..end - 1])?;
     }
+    Ok(())
 }
 
 // A tab, and a digit for each vertex.
-pub fn show_marks(marks: &[u8], count: usize)
+pub fn show_marks(rt: &impl Print, marks: &[u8], count: usize) -> io::Result<()>
     requires { count ≤ length marks.now }
 {
-    io::write_all(STDOUT_FILENO, b"\t");
+    rt.write_all(b"\t")?;
     let mut v = 0;
     while v < count {
-        show_mark(marks[v]);
+        show_mark(rt, marks[v])?;
         v += 1;
     }
+    Ok(())
 }
 
-fn show_mark(mark: u8) {
-    io::print_decimal(STDOUT_FILENO, mark as u64);
+fn show_mark(rt: &impl Print, mark: u8) -> io::Result<()> {
+    rt.print(mark)
 }
 
 // A tab and the row, for each made vertex, and the end of the line.
-pub fn show_rows(pairs: &[u32], first: u32, count: u32)
+pub fn show_rows(rt: &impl Print, pairs: &[u32], first: u32, count: u32) -> io::Result<()>
     requires { 2 * count ≤ length pairs.now }
 {
     let mut v = first;
     while v < count {
-        show_number(b"\t", first_word(pairs, v));
-        show_number(b",", second_word(pairs, v));
+        show_number(rt, b"\t", first_word(pairs, v))?;
+        show_number(rt, b",", second_word(pairs, v))?;
         v += 1;
     }
-    io::write_all(STDOUT_FILENO, b"\n");
+    rt.write_all(b"\n")
 }
 
-fn show_number(before: &[u8], number: u32) {
-    io::write_all(STDOUT_FILENO, before);
-    io::print_decimal(STDOUT_FILENO, number as u64);
+fn show_number(rt: &impl Print, before: &[u8], number: u32) -> io::Result<()> {
+    rt.write_all(before)?;
+    rt.print(number)
 }
