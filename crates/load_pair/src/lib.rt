@@ -1,5 +1,6 @@
 // Both files loaded: the graph, and then the table.
 #![tactic(auto)]
+
 mod layout;
 
 ghost use Rattle.std.specs.Prelude.{◌≤◌, length, ◌≡◌};

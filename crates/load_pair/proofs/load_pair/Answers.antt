@@ -2,7 +2,6 @@
 -- The ANDs are few enough for the rows to have room in the table.
 use Rattle.load_file.proofs.FileLoading.{inputs-few}
 use Rattle.load_pair.proofs.PairLoading.{count-within, table_is, table-room, tally-is}
-use borrow.Author.Rules.{rules}
 use mathlib.Core.Path.{◌∙◌, refl}
 use native.Mathlib.Omega.{arith}
 use Rattle.load_pair.proofs.load_pair.Goals as goal
@@ -12,8 +11,8 @@ overflow_add-first c = omega (arith, inputs-few c.requires.files.left)
 
 pub write_table-requires : goal.write_table-requires
 write_table-requires c =
-    table-room c.requires.files c.build_pair-counts.ensures.result c.requires.table (omega (arith, c.requires.room.for-pairs, c.pairs-1.given))
-    (omega (arith, c.requires.room.for-outputs, c.outputs-1.given))
+    table-room c.requires.files c.build_pair-counts.ensures.result c.requires.table (omega (arith, c.requires.room.for_pairs))
+    (omega (arith, c.requires.room.for_outputs))
 
 pub overflow_sub-result : goal.overflow_sub-result
 overflow_sub-result c = count-within c.requires.files c.build_pair-counts.ensures.result
@@ -24,5 +23,5 @@ returns c =
       result = tally-is c.requires.files h;
       table = c.write_table.ensures
           ∙ table_is c.requires.files h c.args.table.now c.build_pair-counts.new.pairs refl c.build_pair-counts.ensures.outputs
-          (omega (arith, c.requires.room.for-pairs, c.pairs-1.given));
+          (omega (arith, c.requires.room.for_pairs));
     }

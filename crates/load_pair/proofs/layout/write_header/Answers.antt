@@ -1,7 +1,6 @@
 -- Three stores; no loop.
 -- Each is inside the slice, since those before it keep its length.
 use Rattle.load_pair.proofs.Copying.{header-written}
-use borrow.Author.Rules.{rules}
 use lib.ListN.{length-set}
 use native.Mathlib.Omega.{arith}
 use Rattle.load_pair.proofs.layout.write_header.Goals as goal

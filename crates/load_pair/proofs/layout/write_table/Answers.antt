@@ -2,8 +2,7 @@
 -- The table has room for all of them.
 use Rattle.load_pair.proofs.Copying.{table-written}
 use Rattle.load_pair.proofs.TableWords.{last_within, left_length, right_length, right_part, rows_length}
-use lib.ListN.{length-set}
-use mathlib.Core.Path.{◌∙◌, sym}
+use mathlib.Core.Path.{sym}
 use native.Mathlib.Omega.{arith}
 use Rattle.load_pair.proofs.layout.write_table.Goals as goal
 
@@ -19,8 +18,6 @@ copy-at-requires-2 c =
       c.copy-at.ensures.place,
       rows_length c.args.pairs.now o c.requires,
       left_length c.args.pairs.now o c.requires,
-      c.table-2-1.given,
-      c.table-1.given,
     )
 
 pub copy-at-requires-3 : goal.copy-at-requires-3
@@ -36,9 +33,6 @@ copy-at-requires-3 c =
       rows_length p o c.requires,
       left_length p o c.requires,
       right_length p o c.requires,
-      c.table-3-1.given,
-      c.table-2-1.given,
-      c.table-1.given,
     ))
 
 pub offset_bounds-table-at : goal.offset_bounds-table-at
@@ -46,19 +40,14 @@ offset_bounds-table-at c =
     let p = c.args.pairs.now in
     let o = c.args.outputs.now in
     let after = rw (right_part p o c.requires) at c.copy-at-3.ensures in
-    omega (arith, last_within p o c.requires c.copy-at.ensures.place c.copy-at-2.ensures.place after.place, c.well-formed.1.0)
+    omega (arith, last_within p o c.requires c.copy-at.ensures.place c.copy-at-2.ensures.place after.place)
 
 pub bounds-table-at : goal.bounds-table-at
 bounds-table-at c =
     let p = c.args.pairs.now in
     let o = c.args.outputs.now in
     let after = rw (right_part p o c.requires) at c.copy-at-3.ensures in
-    omega (arith, last_within p o c.requires c.copy-at.ensures.place c.copy-at-2.ensures.place after.place, c.table-4-1.given, c.table-3-1.given, c.table-2-1.given, c.table-1.given)
-
--- SETTLED? Need-same-length
--- same_length : tie.Need-same-length
--- same_length c =
---     rw length-set (c.before.before.table4.given ∙ c.before.before.before.before.before.before.before.table3.given ∙ c.before.before.before.before.before.before.before.before.before.before.before.before.table2.given ∙ c.before.before.before.before.before.before.before.before.before.before.before.before.before.before.before.before.before.table.given)
+    omega (arith, last_within p o c.requires c.copy-at.ensures.place c.copy-at-2.ensures.place after.place)
 
 pub returns : goal.returns
 returns c =
