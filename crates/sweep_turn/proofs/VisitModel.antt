@@ -23,7 +23,7 @@ use Rattle.sweep_state.specs.declared.end.Ended as result
 use Rattle.sweep_state.specs.declared.end.Seen.TheVariants.{Decided, Nothing}
 use Rattle.sweep_state.specs.declared.end.Seen.{Seen}
 use Rattle.sweep_state.specs.declared.task.Task.{Task}
-use Rattle.sweep_step.specs.code.Multiply.{Context, DueOn, Looked, Takes, multiplied}
+use Rattle.sweep_step.specs.code.Multiply.{Context, DueOn, Takes, multiplied}
 use Rattle.sweep_step.specs.declared.multiply.Step.TheVariants as step
 use Rattle.sweep_step.specs.declared.multiply.Step.{Step}
 use Rattle.sweep_turn.proofs.EndModel.{looked-ends}

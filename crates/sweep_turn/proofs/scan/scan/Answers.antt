@@ -1,4 +1,3 @@
-use Prim.Native.Nat.{◌-◌}
 use Rattle.sweep_state.specs.code.Meet.{workspace}
 use Rattle.sweep_state.specs.code.Arrays.{arrays}
 use Rattle.sweep_turn.proofs.ScanModel.{scan-asks, scan_begins, scan-ends, scan-goes-on, scan-stops}
@@ -34,30 +33,6 @@ loop-v-preserved c =
     (workspace c.visit-going.new.pairs (arrays c.visit-going.new.diagrams c.visit-going.new.stages c.visit-going.new.rows c.visit-going.new.marks))
     c.visit-going.new.look c.loop-v-test.true c.in-On.is c.visit-going.ensures
     (record { pairs = search rules; diagrams = search rules; stages = search rules; rows = search rules; marks = search rules }) (search rules)
-
--- SETTLED? Need-same-length-7
--- same-length-7 : tie.Need-same-length-7 invariant_loop decreases_loop
--- same-length-7 c = c.before.loop.invariant.same.pairs
-
--- SETTLED? Need-same-length-8
--- same-length-8 : tie.Need-same-length-8 invariant_loop decreases_loop
--- same-length-8 c = c.before.loop.invariant.same-look
-
--- SETTLED? Need-same-length-9
--- same-length-9 : tie.Need-same-length-9 invariant_loop decreases_loop
--- same-length-9 c = c.before.loop.invariant.same.diagrams
-
--- SETTLED? Need-same-length-10
--- same-length-10 : tie.Need-same-length-10 invariant_loop decreases_loop
--- same-length-10 c = c.before.loop.invariant.same.stages
-
--- SETTLED? Need-same-length-11
--- same-length-11 : tie.Need-same-length-11 invariant_loop decreases_loop
--- same-length-11 c = c.before.loop.invariant.same.rows
-
--- SETTLED? Need-same-length-12
--- same-length-12 : tie.Need-same-length-12 invariant_loop decreases_loop
--- same-length-12 c = c.before.loop.invariant.same.marks
 
 pub returns : goal.returns
 returns c = scan-ends c.loop-v.invariant c.loop-v-test.false

@@ -22,7 +22,7 @@ pub loop-v-smaller : goal.loop-v-smaller
 loop-v-smaller c =
     let opened = c.open-going in
     turns_fall c.loop-v.invariant c.in-At.is c.pick-picked.ensures
-    (workspace opened.new.0 (arrays opened.new.1.1.0 opened.new.1.1.1.0 opened.new.1.1.1.1.0 opened.new.1.1.1.1.1.0))
+    (workspace opened.new.pairs (arrays opened.new.diagrams opened.new.stages opened.new.rows opened.new.marks))
     opened.ensures c.in-On.is
     c.requires.rest
 
@@ -30,40 +30,16 @@ pub loop-v-preserved : goal.loop-v-preserved
 loop-v-preserved c =
     let opened = c.open-going in
     turns-go-on c.loop-v.invariant c.in-At.is c.pick-picked.ensures
-    (workspace opened.new.0 (arrays opened.new.1.1.0 opened.new.1.1.1.0 opened.new.1.1.1.1.0 opened.new.1.1.1.1.1.0))
-    opened.ensures c.in-On.is opened.new.1.0
+    (workspace opened.new.pairs (arrays opened.new.diagrams opened.new.stages opened.new.rows opened.new.marks))
+    opened.ensures c.in-On.is opened.new.look
     (record { pairs = search rules; diagrams = search rules; stages = search rules; rows = search rules; marks = search rules }) (search rules)
 
 pub returns-in-Ended : goal.returns-in-Ended
 returns-in-Ended c =
     let opened = c.open-going in
     turns_stop c.loop-v.invariant c.in-At.is c.pick-picked.ensures
-    (workspace opened.new.0 (arrays opened.new.1.1.0 opened.new.1.1.1.0 opened.new.1.1.1.1.0 opened.new.1.1.1.1.1.0))
+    (workspace opened.new.pairs (arrays opened.new.diagrams opened.new.stages opened.new.rows opened.new.marks))
     opened.ensures c.in-Ended.is
-
--- SETTLED? Need-same-length-7
--- same-length-7 : tie.Need-same-length-7 invariant_loop decreases_loop
--- same-length-7 c = c.before.before.before.before.before.loop.invariant.same.pairs
-
--- SETTLED? Need-same-length-8
--- same-length-8 : tie.Need-same-length-8 invariant_loop decreases_loop
--- same-length-8 c = c.before.before.before.before.before.loop.invariant.same-look
-
--- SETTLED? Need-same-length-9
--- same-length-9 : tie.Need-same-length-9 invariant_loop decreases_loop
--- same-length-9 c = c.before.before.before.before.before.loop.invariant.same.diagrams
-
--- SETTLED? Need-same-length-10
--- same-length-10 : tie.Need-same-length-10 invariant_loop decreases_loop
--- same-length-10 c = c.before.before.before.before.before.loop.invariant.same.stages
-
--- SETTLED? Need-same-length-11
--- same-length-11 : tie.Need-same-length-11 invariant_loop decreases_loop
--- same-length-11 c = c.before.before.before.before.before.loop.invariant.same.rows
-
--- SETTLED? Need-same-length-12
--- same-length-12 : tie.Need-same-length-12 invariant_loop decreases_loop
--- same-length-12 c = c.before.before.before.before.before.loop.invariant.same.marks
 
 pub returns-in-None : goal.returns-in-None
 returns-in-None c = turns-end c.loop-v.invariant c.in-None.is c.pick-picked.ensures

@@ -1,6 +1,5 @@
 -- What was seen decides; no loop.
 -- One case for each answer.
-use borrow.Author.Rules.{rules}
 use mathlib.Core.Path.{refl}
 use Rattle.sweep_turn.proofs.visit.after_look.Goals as goal
 
