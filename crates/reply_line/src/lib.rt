@@ -1,5 +1,6 @@
 // The line of a reply, as bytes.
 #![tactic(auto)]
+
 ghost use Rattle.compare_model.specs.Said.{said_of};
 ghost use Rattle.reply_line.specs.code.Cause.{cause_vertex, cause_word};
 ghost use Rattle.reply_line.specs.Line.{line_for, room_for};

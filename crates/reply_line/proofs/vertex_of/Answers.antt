@@ -1,6 +1,5 @@
 -- Each cause has its own vertex, by what the match tells of it.
 -- There is no loop.
-use borrow.Author.Rules.{rules}
 use mathlib.Core.Path.{refl}
 use Rattle.reply_line.proofs.vertex_of.Goals as goal
 

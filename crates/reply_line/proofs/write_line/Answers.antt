@@ -1,7 +1,6 @@
 -- Each reply has its own line, by what the match tells of it.
 -- There is no loop.
 use Rattle.reply_line.proofs.LineLaws.{undecided_line, undecided-room}
-use borrow.Author.Rules.{rules}
 use mathlib.Core.Path.{sym}
 use Rattle.reply_line.proofs.write_line.Goals as goal
 
@@ -13,7 +12,10 @@ returns-in-Different c = rw c.in-Different.is c.write_reply-in-Different.ensures
 
 pub returns-in-Undecided : goal.returns-in-Undecided
 returns-in-Undecided c =
-    rw (c.in-Undecided.is, undecided_line, undecided-room, sym c.word_of.ensures, sym c.vertex_of.ensures) c.write_reply-in-Undecided.ensures
+    let u = c.in-Undecided in
+    let line = undecided_line c.args.edition c.args.output u.cause u.counts.rows u.counts.steps u.counts.added c.args.setting.now in
+    let room = undecided-room u.cause u.counts.rows u.counts.steps u.counts.added c.args.setting.now in
+    rw (u.is, line, room, sym c.word_of.ensures, sym c.vertex_of.ensures) c.write_reply-in-Undecided.ensures
 
 pub returns-in-Refused : goal.returns-in-Refused
 returns-in-Refused c = rw c.in-Refused.is c.write_refused.ensures
