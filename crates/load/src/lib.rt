@@ -1,5 +1,6 @@
 // Loading: two drawing files into one table.
 #![tactic(auto)]
+
 ghost use Rattle.load_model.specs.Load.{answer_of, load_result, table_loaded};
 ghost use Rattle.load_model.specs.Lent.{Kept, room_in, working};
 ghost use Rattle.std.specs.Prelude.{◌≡◌};
@@ -17,9 +18,9 @@ pub fn load(
     literals: &mut [u32],
     outputs: &mut [u32],
 ) -> Loaded
-    ensures result { answer_of result ≡ load_result left.now right.now (room_in table.entry pairs.entry look.entry literals.entry outputs.entry) }
+    ensures result { answer_of result ≡ load_result left.now right.now (room_in table.old pairs.old look.old literals.old outputs.old) }
     ensures table { table.new ≡ table_loaded (answer_of result) left.now right.now table.old }
-    ensures kept { Kept (answer_of result) (working pairs.entry look.entry literals.entry outputs.entry) (working pairs.exit look.exit literals.exit outputs.exit) }
+    ensures kept { Kept (answer_of result) (working pairs.old look.old literals.old outputs.old) (working pairs.new look.new literals.new outputs.new) }
 {
     let decision = load_decision::decide(
         left,

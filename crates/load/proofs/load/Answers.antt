@@ -2,7 +2,6 @@
 -- At a refusal nothing has been written.
 use Rattle.load_model.specs.Load.{accepted, table_after}
 use Rattle.load.proofs.Deciding.{goes_on, goes-table, refusal_result}
-use borrow.Author.Rules.{rules}
 use mathlib.Core.Path.{◌∙◌, ap, refl, sym}
 use Rattle.load.proofs.load.Goals as goal
 
@@ -17,10 +16,10 @@ load_pair-tally-requires c =
 pub returns-in-Refused : goal.returns-in-Refused
 unfolding table_after
 returns-in-Refused c = record {
-      result = sym (refusal_result _ _ _ c.decide-decision.ensures c.in-Refused.is);
-      table = refl;
-      kept = refl;
-    }
+  result = sym (refusal_result _ _ _ c.decide-decision.ensures c.in-Refused.is);
+  table = refl;
+  kept = refl;
+}
 
 pub returns-in-Go : goal.returns-in-Go
 returns-in-Go c =
