@@ -42,7 +42,7 @@ fn give_inputs(
     task: Task,
 ) -> Going
     requires { GivingIn task (workspace pairs.now (arrays diagrams.old stages.old rows.old marks.old)) }
-    ensures { GivesInputs task (workspaces pairs diagrams stages rows marks).entry (workspace pairs.now (arrays_of diagrams stages rows marks).exit) result }
+    ensures { GivesInputs task (workspace pairs.now (arrays_of diagrams stages rows marks).entry) (workspace pairs.now (arrays_of diagrams stages rows marks).exit) result }
 {
     let inputs = give_rows(diagrams, stages, rows, marks, task, 0);
     match inputs {

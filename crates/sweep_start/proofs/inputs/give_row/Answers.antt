@@ -19,18 +19,14 @@ make-made-requires c =
 
 pub overflow_cast-reference : goal.overflow_cast-reference
 overflow_cast-reference c =
-    let arm = c.made-1 in
-    let make = c.make-made in
-    let made : MadeAt c.args.rows.now make.new.0 c.args.task.rows c.args.used (level_of c.args.task c.args.v) 0 1 arm.given.0.0 arm.given.0.1.0 = rw arm.given.1 at make.ensures in
+    let made : MadeAt c.args.rows.now c.make-made.new.rows c.args.task.rows c.args.used (level_of c.args.task c.args.v) 0 1 c.in-At.reference c.in-At.used = rw c.in-At.is at c.make-made.ensures in
     omega (arith, made-small made)
 
 pub draw-requires : goal.draw-requires
 draw-requires c =
-    let arm = c.made-1 in
-    let make = c.make-made in
-    let made : MadeAt c.args.rows.now make.new.0 c.args.task.rows c.args.used (level_of c.args.task c.args.v) 0 1 arm.given.0.0 arm.given.0.1.0 = rw arm.given.1 at make.ensures in
+    let made : MadeAt c.args.rows.now c.make-made.new.rows c.args.task.rows c.args.used (level_of c.args.task c.args.v) 0 1 c.in-At.reference c.in-At.used = rw c.in-At.is at c.make-made.ensures in
     let q = c.requires in record {
-      words = (q.diagram-within, (q.stage-within, q.mark-within));
+      words = (q.diagram_within, (q.stage-within, q.mark-within));
       row = (made-within made, q.few);
     }
 
