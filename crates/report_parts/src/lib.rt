@@ -1,5 +1,6 @@
 // Parts of the report: whether its slices are too short, and a line in its place.
 #![tactic(auto)]
+
 ghost use Rattle.std.specs.Prelude.{◌+◌, ◌≤◌, length, ◌≡◌};
 ghost use Rattle.compare_model.specs.Said.{said_of};
 ghost use Rattle.compare_refusal.specs.code.Room.{room_of};

@@ -5,7 +5,6 @@ use Rattle.compare_model.specs.Said.{said_of}
 use Rattle.reply_line.specs.Line.{room_for}
 use Rattle.report_format.specs.Report.{LINE_ROOM}
 use Rattle.report_parts.proofs.PartLaws.{part_stored, room-short}
-use borrow.Author.Rules.{rules}
 use lib.ListN.{length}
 use native.Mathlib.Omega.{arith}
 use Rattle.report_parts.proofs.put_line.Goals as goal
