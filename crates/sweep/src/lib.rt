@@ -1,5 +1,6 @@
 // The sweep's code on the working graph: it knows no table header and no file.
 #![tactic(auto)]
+
 ghost use Rattle.std.specs.Prelude.{◌*◌, ◌≤◌, length};
 ghost use Rattle.sweep_start.specs.code.Start.{SweepAsked};
 ghost use Rattle.sweep_state.specs.code.Arrays.{arrays};

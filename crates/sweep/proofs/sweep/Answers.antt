@@ -3,7 +3,6 @@
 use Rattle.sweep_state.specs.code.Meet.{workspace}
 use Rattle.sweep_state.specs.code.Arrays.{arrays}
 use Rattle.sweep.proofs.SweepModel.{start-answers, start-rests, sweep_goes_on}
-use borrow.Author.Rules.{rules}
 use native.Mathlib.Omega.{arith}
 use Rattle.sweep.proofs.sweep.Goals as goal
 
@@ -12,7 +11,7 @@ finish-requires c =
     let begun = c.start-started in record {
       rest = start-rests c.args.task
           (workspace c.args.pairs.now (arrays c.args.diagrams.now c.args.stages.now c.args.rows.now c.args.marks.now))
-          (workspace begun.new.0 (arrays begun.new.1.1.0 begun.new.1.1.1.0 begun.new.1.1.1.1.0 begun.new.1.1.1.1.1.0))
+          (workspace begun.new.pairs (arrays begun.new.diagrams begun.new.stages begun.new.rows begun.new.marks))
           begun.ensures c.in-On.is c.requires;
       long = omega (arith, c.requires.look-long);
     }
@@ -23,9 +22,9 @@ returns-in-On c =
     let finished = c.finish in
     sweep_goes_on c.args.task
     (workspace c.args.pairs.now (arrays c.args.diagrams.now c.args.stages.now c.args.rows.now c.args.marks.now))
-    (workspace begun.new.0 (arrays begun.new.1.1.0 begun.new.1.1.1.0 begun.new.1.1.1.1.0 begun.new.1.1.1.1.1.0))
+    (workspace begun.new.pairs (arrays begun.new.diagrams begun.new.stages begun.new.rows begun.new.marks))
     begun.ensures c.in-On.is
-    (workspace finished.new.0 (arrays finished.new.1.1.0 finished.new.1.1.1.0 finished.new.1.1.1.1.0 finished.new.1.1.1.1.1.0))
+    (workspace finished.new.pairs (arrays finished.new.diagrams finished.new.stages finished.new.rows finished.new.marks))
     finished.ensures
 
 pub returns-in-Ended : goal.returns-in-Ended
@@ -33,5 +32,5 @@ returns-in-Ended c =
     let begun = c.start-started in
     start-answers c.args.task
     (workspace c.args.pairs.now (arrays c.args.diagrams.now c.args.stages.now c.args.rows.now c.args.marks.now))
-    (workspace begun.new.0 (arrays begun.new.1.1.0 begun.new.1.1.1.0 begun.new.1.1.1.1.0 begun.new.1.1.1.1.1.0))
+    (workspace begun.new.pairs (arrays begun.new.diagrams begun.new.stages begun.new.rows begun.new.marks))
     begun.ensures c.in-Ended.is
