@@ -36,12 +36,15 @@ bits =
     comm true false = refl
     comm false true = refl
     comm false false = refl
+
     not_not : (x : Bool) → not (not x) ≡ x
     not_not true = refl
     not_not false = refl
+
     self : (x : Bool) → (x && x) ≡ x
     self true = refl
     self false = refl
+
     inverse : (x : Bool) → (x && not x) ≡ false
     inverse true = refl
     inverse false = refl

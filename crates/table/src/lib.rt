@@ -1,5 +1,6 @@
 // The table that load writes and the other calls read: its layout and limits.
 #![tactic(auto)]
+
 ghost use Rattle.std.specs.Prelude.{◌<◌, get_or, ◌≡◌};
 ghost use Rattle.aig.specs.Literal.{lit};
 ghost use Rattle.table.specs.Accepted.{WellFormed};

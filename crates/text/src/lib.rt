@@ -1,5 +1,6 @@
 // Text as bytes: a slice cut at a separator, byte strings compared, decimal numerals read and printed.
 #![tactic(auto)]
+
 mod bytes;
 mod decimal;
 mod numerals;

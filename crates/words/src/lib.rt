@@ -1,5 +1,6 @@
 // Words written into a slice.
 #![tactic(auto)]
+
 ghost use Rattle.std.specs.Prelude.{◌*◌, ◌+◌, ◌<◌, ◌^◌, ◌≤◌, length, ◌≡◌};
 ghost use Rattle.aig.specs.Lookup.{own_words};
 ghost use Rattle.text.specs.Decimal.{Stored, written};

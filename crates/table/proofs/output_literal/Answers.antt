@@ -1,7 +1,6 @@
 -- One word for each side; no loop.
 use Rattle.aig.specs.Literal.{lit}
 use Rattle.table.proofs.LayoutLaws.{first-side-at, second-side-at}
-use borrow.Author.Rules.{rules}
 use mathlib.Core.Path.{ap, sym}
 use Rattle.table.proofs.output_literal.Goals as goal
 

@@ -1,4 +1,3 @@
-use Prim.Native.Nat.{◌-◌}
 use Rattle.words.proofs.Writing.{copy_begins, copy_ends, copy_turn}
 use borrow.Author.Rules.{rules}
 use mathlib.Core.Path.{refl}

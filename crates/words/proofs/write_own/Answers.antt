@@ -1,4 +1,3 @@
-use Prim.Native.Nat.{◌-◌}
 use Rattle.words.proofs.Writing.{own_begins, own-ends, own_turn}
 use borrow.Author.Rules.{rules}
 use lib.ListN.{length-set}

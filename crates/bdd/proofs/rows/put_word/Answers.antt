@@ -1,7 +1,6 @@
 -- The definition at a row from 1 on.
 -- No loop.
 use Rattle.bdd.proofs.RowsLaws.{put_at}
-use borrow.Author.Rules.{rules}
 use mathlib.Core.Path.{sym}
 use Rattle.bdd.proofs.rows.put_word.Goals as goal
 

@@ -3,7 +3,6 @@
 use Prim.Native.Nat.{◌*◌, ◌+◌}
 use Rattle.bdd.specs.code.Owners.{with_owner}
 use Rattle.bdd.specs.code.Rows.{RADIX, put}
-use borrow.Author.Rules.{rules}
 use mathlib.Core.Path.{◌∙◌, ap}
 use Rattle.bdd.proofs.rows.set_owner.Goals as goal
 

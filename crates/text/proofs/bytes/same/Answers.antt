@@ -1,4 +1,3 @@
-use Prim.Native.Nat.{◌-◌}
 use Rattle.text.proofs.BytesLaws.{same_lengths}
 use Rattle.text.proofs.BytesSteps.{same_agrees, same_differs, same_ended}
 use borrow.Author.Rules.{rules}

@@ -1,6 +1,4 @@
-use Prim.Native.Nat.{ℕ}
 use Rattle.text.proofs.DecimalSteps.{digit-fits, last_fits, stored-digit, stored_more, tenth_fits}
-use borrow.Author.Rules.{rules}
 use native.Mathlib.Omega.{arith}
 use Rattle.text.proofs.decimal.+print.Goals as goal
 

@@ -1,4 +1,3 @@
-use Prim.Native.Nat.{◌-◌, ◌<◌}
 use Rattle.text.proofs.NumeralSteps.{digits_above, digits-below, digits-ended, digits-next, value-next, value-small}
 use borrow.Author.Rules.{rules}
 use lib.Dec.{lit<}

@@ -1,4 +1,4 @@
-use Prim.Native.Nat.{◌+◌, ◌-◌, ◌<◌}
+use Prim.Native.Nat.{◌+◌, ◌<◌}
 use Rattle.text.proofs.SplitSteps.{part_ends, part_here, part_next}
 use borrow.Author.Rules.{rules}
 use lib.ListN.{length}
@@ -14,7 +14,7 @@ overflow_add-at c =
     let a = c.args in
     let l = c.loop-i in
     let ends : l.at + length c.until-passed.result.now < length a.s.now =
-        rw c.until-passed.ensures (part_ends a.stop a.s.now l.at l.i l.invariant.2 (omega arith)) in
+    rw c.until-passed.ensures (part_ends a.stop a.s.now l.at l.i l.invariant.2 (omega arith)) in
     omega arith
 
 pub overflow_add-at-in-loop-i : goal.overflow_add-at-in-loop-i
@@ -22,7 +22,7 @@ overflow_add-at-in-loop-i c =
     let a = c.args in
     let l = c.loop-i in
     let ends : l.at + length c.until-passed.result.now < length a.s.now =
-        rw c.until-passed.ensures (part_ends a.stop a.s.now l.at l.i l.invariant.2 (omega arith)) in
+    rw c.until-passed.ensures (part_ends a.stop a.s.now l.at l.i l.invariant.2 (omega arith)) in
     omega arith
 
 pub loop-i-preserved : goal.loop-i-preserved
@@ -30,7 +30,7 @@ loop-i-preserved c =
     let a = c.args in
     let l = c.loop-i in
     let ends : l.at + length c.until-passed.result.now < length a.s.now =
-        rw c.until-passed.ensures (part_ends a.stop a.s.now l.at l.i l.invariant.2 (omega arith)) in
+    rw c.until-passed.ensures (part_ends a.stop a.s.now l.at l.i l.invariant.2 (omega arith)) in
     (search rules, omega arith, rw c.until-passed.ensures (part_next a.stop a.s.now l.at l.i l.invariant.2 (omega arith)))
 
 pub returns : goal.returns

@@ -1,7 +1,6 @@
 -- The invariant: the parts of what starts at `at` are the parts from `i` on.
 -- The measure is the number of parts still to pass.
 use Prim.Native.Nat.{◌-◌, ◌≤◌}
-use Rattle.text.proofs.split.part.Lts as lts
 use Rattle.text.specs.Split.{split_at}
 use lib.ListN.{drop, length}
 use mathlib.Core.Path.{◌≡◌}

@@ -1,4 +1,3 @@
-use Prim.Native.Nat.{◌-◌}
 use Rattle.text.proofs.SplitSteps.{count_end, count_pass, count_stop}
 use native.Mathlib.Omega.{arith}
 use Rattle.text.proofs.split.part_count.Goals as goal

@@ -1,4 +1,3 @@
-use Prim.Native.Nat.{◌-◌}
 use Rattle.text.proofs.SplitSteps.{up_to_end, up_to_pass, up_to_stop}
 use borrow.Author.Rules.{rules}
 use lib.ListN.{length}
