@@ -1,5 +1,6 @@
 // The table's rows copied to the working graph, and the graph's rows and the outputs back.
 #![tactic(auto)]
+
 ghost use Rattle.std.specs.Prelude.{◌*◌, ◌+◌, ◌<◌, ◌≤◌, ℕ, get_or, length, [], ◌∷◌, map, ◌≡◌};
 ghost use Rattle.aig.specs.Literal.{vertex_of};
 ghost use Rattle.compare_model.specs.Compare.{entry_rows, graph_words, output_of, over_front, table_left, vertex_room};

@@ -1,7 +1,6 @@
 -- The rows after the header, then the output references resolved in place; no loop.
 -- One law says what is lent between the two, one what is left.
 use Rattle.compare_copy.proofs.CopyLaws.{outputs_resolved, outputs-within}
-use borrow.Author.Rules.{rules}
 use Rattle.compare_copy.proofs.copy_out.Goals as goal
 
 pub resolve_all-requires : goal.resolve_all-requires

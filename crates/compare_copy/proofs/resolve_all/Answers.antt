@@ -1,4 +1,4 @@
-use Prim.Native.Nat.{◌-◌, ◌<◌}
+use Prim.Native.Nat.{◌<◌}
 use Rattle.aig.specs.declared.literal.Literal.{Literal}
 use Rattle.compare_copy.proofs.CopyLaws.{mapped-all, mapped-more, mapped_next}
 use Rattle.sweep_model.specs.Normalise.{resolve}
@@ -29,10 +29,6 @@ loop-i-preserved c =
       length-set l.words l.i c.resolve.result.0 ∙ l.invariant.1,
       ap (set l.words l.i) became ∙ mapped-more (resolve a.pairs.now) l.i a.words.now l.words l.invariant.2 within,
     )
-
--- SETTLED? Need-same-length
--- same_length : tie.Need-same-length invariant_loop decreases_loop
--- same_length c = c.before.loop.invariant.1
 
 pub returns : goal.returns
 returns c =

@@ -3,7 +3,6 @@
 use Prim.Native.Nat.{◌+◌, ℕ}
 use Rattle.aig.specs.declared.literal.Literal.{Literal}
 use Rattle.compare_copy.proofs.CopyLaws.{row_written}
-use borrow.Author.Rules.{rules}
 use lib.ListN.{length-set, set}
 use mathlib.Core.Path.{◌∙◌, ap, ap₂}
 use native.Mathlib.Omega.{arith}
