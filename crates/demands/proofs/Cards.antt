@@ -1,9 +1,9 @@
 -- The bench cards, computed.
 use Rattle.aig.specs.Fold.{fold_of}
 use Rattle.aig.specs.Lookup.{first_vertex, own_words}
-use Rattle.compare_model.specs.Compare.{answer_to, answered, beyond?, compared, entry_rows, graph_words, looked_at, next_rows, outputs_left, outside?, problem_of, refusal_of, row_words, said_by, setting_bytes, setting_left, table_left, turned_back}
+use Rattle.compare_model.specs.Compare.{Left, answer_to, answered, beyond?, compared, entry_rows, graph_words, looked_at, next_rows, outputs_left, outside?, problem_of, refusal_of, row_words, said_by, setting_bytes, setting_left, table_left, turned_back}
 use Rattle.compare_model.specs.Compare.{short_slice? as slices?}
-use Rattle.demands.specs.Cards.{Cards, Replying, constrained_file, loaded_table, named_output, output_file}
+use Rattle.demands.specs.Cards.{Cards, Replying, comparison_of, constrained_file, first_compared, loaded_table, named_output, output_file, usual}
 use Rattle.load_model.proofs.Cards.{loading}
 use Rattle.load_model.specs.Build.{ask_and, ask_gate, ask_gates, build_file, build_pair, empty_build, folded_or_not, found_or_made, literals_from}
 use Rattle.load_model.specs.Cards.{and_file, named_and, or_file, turned_and}
@@ -28,8 +28,9 @@ use Rattle.truth.specs.Distinct.{among, distinct, filter}
 use Rattle.truth.specs.Parts.{alike?, cofactors, depends?, parts, size}
 use Rattle.truth.specs.Settings.{first_difference}
 use Rattle.truth.specs.Steps.{terminal?}
+use Prim.Native.Nat.{ℕ}
 use lib.ListN.{drop, replicate}
-use mathlib.Core.List.{◌∷◌}
+use mathlib.Core.List.{List, ◌∷◌}
 use mathlib.Core.Path.{◌≡◌, refl}
 
 record Tables : Type 0 where
@@ -45,21 +46,26 @@ tables : Tables
 unfolding due_after below? check_file check_from constraints_in due? finish first_refusal formed? gates_in header? known? limited? more? name_count names_in outputs_in read_by read_netlist twice? digits_from numeral_of fields_record file_lines line_of part_lines name? operation_of record_of unended fold_of first_vertex own_words ask_and ask_gate ask_gates build_file build_pair empty_build folded_or_not found_or_made literals_from counts_differ? first_lacked input_for load_result paired place_of read_result read_second reference_for short_slice? tally_of and_count table_after table_of table_words
 tables = record { and_or_lem = refl; inverse = refl; constants = refl; named = refl; turned = refl; allowed = refl; none_allowed = refl }
 
+-- What a comparison of a pair's first output comes to, by the table that the pair loads to.
+by_table : {A : Type 0} (part : Left → A) (left right table : List ℕ) (x : A) → loaded_table left right ≡ table
+    → part (compared (comparison_of 0 usual table)) ≡ x → part (first_compared left right) ≡ x
+by_table part left right table x e f = rw e f
+
 replying : Replying
 unfolding answer_to answered beyond? compared entry_rows graph_words looked_at next_rows outputs_left outside? problem_of refusal_of row_words setting_bytes setting_left slices? table_left turned_back output_words pairs rows_of side_outputs malformed? beyond_limits? out_of_order? downward? all_below? row_below? graph_of functions_of first_functions inputs_from first_refusal vertex_values conj constant? constantly input invert same? sweep result_of conclude give_row go go_for multiply open_at pick_from ready? scan_from smaller swept top_part turns_left turns_of twin_from visit giveRows start look look_at and_then begin normalise normalise_from normalise_row folded_row found_row resolve takes_from take_at wake_at wake has? gone? bare? dropped? open? waits? said_by fold_of first_vertex own_words ◌and_then◌ add_part add_row count_step plain run among distinct filter alike? cofactors depends? parts size terminal? first_difference value_at
 replying =
     record {
-      and_or-reply = rw tables.and_or_lem refl;
-      inverse-reply = rw tables.inverse refl;
-      inverse-setting = rw tables.inverse refl;
-      constants_reply = rw tables.constants refl;
-      constants_setting = rw tables.constants refl;
-      named-reply = rw tables.named refl;
-      turned-reply = rw tables.turned refl;
-      turned-setting = rw tables.turned refl;
-      allowed-reply = rw tables.allowed refl;
-      allowed-setting = rw tables.allowed refl;
-      none-allowed-reply = rw tables.none_allowed refl;
+      and_or-reply = by_table (λ l. l.reply) _ _ _ _ tables.and_or_lem refl;
+      inverse-reply = by_table (λ l. l.reply) _ _ _ _ tables.inverse refl;
+      inverse-setting = by_table (λ l. l.setting) _ _ _ _ tables.inverse refl;
+      constants_reply = by_table (λ l. l.reply) _ _ _ _ tables.constants refl;
+      constants_setting = by_table (λ l. l.setting) _ _ _ _ tables.constants refl;
+      named-reply = by_table (λ l. l.reply) _ _ _ _ tables.named refl;
+      turned-reply = by_table (λ l. l.reply) _ _ _ _ tables.turned refl;
+      turned-setting = by_table (λ l. l.setting) _ _ _ _ tables.turned refl;
+      allowed-reply = by_table (λ l. l.reply) _ _ _ _ tables.allowed refl;
+      allowed-setting = by_table (λ l. l.setting) _ _ _ _ tables.allowed refl;
+      none-allowed-reply = by_table (λ l. l.reply) _ _ _ _ tables.none_allowed refl;
     }
 
 -- The cards hold.
