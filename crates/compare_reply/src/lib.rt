@@ -1,5 +1,6 @@
 // How a sweep ended, as the reply and the setting.
 #![tactic(auto)]
+
 mod setting;
 
 ghost use Rattle.std.specs.Prelude.{◌+◌, ◌≤◌, ℕ, length, List, ◌≡◌};

@@ -2,14 +2,12 @@
 -- Each rewrites with the end.
 use Rattle.compare_model.specs.Compare.{setting_left}
 use Rattle.sweep_state.specs.code.Ending.{verdict_of}
-use borrow.Author.Rules.{rules}
 use mathlib.Core.Path.{refl}
 use Rattle.compare_reply.proofs.write_setting.Goals as goal
 
 pub write_difference-requires : goal.write_difference-requires
 write_difference-requires c =
-    let end = c.end-1 in
-    let refers = rw end.given.1 at c.requires.references in record {
+    let refers = rw c.in-Differ.is at c.requires.references in record {
       store = c.requires.store;
       first = refers.0;
       second = refers.1;

@@ -1,7 +1,6 @@
 -- The digits that the diagrams give are the bytes of the setting; no loop.
 -- One law says so.
 use Rattle.compare_reply.proofs.SettingLaws.{difference-left}
-use borrow.Author.Rules.{rules}
 use mathlib.Core.Path.{◌∙◌}
 use Rattle.compare_reply.proofs.setting.write_difference.Goals as goal
 

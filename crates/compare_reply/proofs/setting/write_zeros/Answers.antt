@@ -1,4 +1,4 @@
-use Prim.Native.Nat.{◌-◌, ◌<◌, ℕ}
+use Prim.Native.Nat.{◌<◌, ℕ}
 use Rattle.compare_reply.proofs.SettingLaws.{zeros-left}
 use borrow.Author.Fill.{fill_more}
 use borrow.Author.Rules.{rules}
@@ -17,10 +17,6 @@ loop-i-preserved c =
     let before = c.args.setting.now in
     let lt : l.i < length before = search rules in
     (search rules, length-set l.setting l.i 48 ∙ l.invariant.1, ap (λ (s : List ℕ). set s l.i 48) l.invariant.2 ∙ fill_more l.i 48 before lt)
-
--- SETTLED? Need-same-length
--- same_length : tie.Need-same-length invariant_loop decreases_loop
--- same_length c = c.before.loop.invariant.1
 
 pub returns : goal.returns
 returns c =
