@@ -4,7 +4,7 @@ use Rattle.compare_model.specs.Compare.{CompareRoom, Given, Left, compared, limi
 use Rattle.compare_model.specs.Said.{Said, said_of}
 use Rattle.compare_model.specs.declared.Limits.{Limits as Asked}
 use Rattle.sweep_model.specs.declared.Reply.{Reply}
-use Rattle.std.specs.Borrow.{MutBor}
+use Rattle.std.specs.Borrow.{Bor, MutBor}
 use denote.Triple.Both.{Both}
 
 -- A lent slice, at entry and at exit.
@@ -38,6 +38,18 @@ holding table pairs look diagrams stages rows marks setting =
 -- What they hold at entry and at exit.
 abbrev pub slices : Slice → Slice → Slice → Slice → Slice → Slice → Slice → Slice → Both Slices Slices
 slices table pairs look diagrams stages rows marks setting =
+    record {
+      entry =
+          holding table.entry.now pairs.entry.now look.entry.now diagrams.entry.now stages.entry.now rows.entry.now
+          marks.entry.now setting.entry.now;
+      exit =
+          holding table.exit.now pairs.exit.now look.exit.now diagrams.exit.now stages.exit.now rows.exit.now
+          marks.exit.now setting.exit.now;
+    }
+
+-- The same, where the table is only read.
+abbrev pub slices_read : Both (Bor (List ℕ)) (Bor (List ℕ)) → Slice → Slice → Slice → Slice → Slice → Slice → Slice → Both Slices Slices
+slices_read table pairs look diagrams stages rows marks setting =
     record {
       entry =
           holding table.entry.now pairs.entry.now look.entry.now diagrams.entry.now stages.entry.now rows.entry.now

@@ -1,5 +1,6 @@
 // compare: the output of a table on both sides.
 #![tactic(auto)]
+
 mod task;
 mod work;
 

@@ -4,7 +4,6 @@ use Rattle.compare_model.proofs.RefusalLaws.{passed}
 use Rattle.compare_model.specs.Compare.{Given}
 use Rattle.comparer.proofs.CompareLaws.{finished, finishes, refusal_found, turned_back_lem}
 use Rattle.comparer.specs.Lent.{given, holding}
-use borrow.Author.Rules.{rules}
 use mathlib.Core.Path.{◌∙◌, refl, sym}
 use Rattle.comparer.proofs.compare.Goals as goal
 
@@ -36,7 +35,7 @@ finish-requires c =
     let a = c.args in
     let g : Given = given a.output a.limits (holding a.table.now a.pairs.now a.look.now a.diagrams.now a.stages.now a.rows.now a.marks.now a.setting.now) in
     let p = passed g (sym (refusal_found g number.result number.ensures) ∙ c.if-number-ne0.false) in
-    finishes g c.run-ended.new.pairs c.run-ended.new.rows c.run-ended.new.marks.0 c.run-ended.result (c.run-ended.ensures (record { entry = a.setting; exit = a.setting })) p
+    finishes g c.run-ended.new.pairs c.run-ended.new.rows c.run-ended.new.marks c.run-ended.result (c.run-ended.ensures (record { entry = a.setting; exit = a.setting })) p
 
 pub returns : goal.returns
 returns c =
@@ -46,7 +45,7 @@ returns c =
     let h = sym (refusal_found g number.result number.ensures) ∙ c.if-number-ne0.false in
     record {
       result =
-          finished g c.run-ended.new.pairs c.run-ended.new.rows c.run-ended.new.marks.0 c.run-ended.result (c.run-ended.ensures (record { entry = a.setting; exit = a.setting })) h
-          c.finish.result c.finish.new.table c.finish.new.setting.0 c.finish.ensures.table_after c.finish.ensures.setting_after c.finish.ensures.result_value;
+          finished g c.run-ended.new.pairs c.run-ended.new.rows c.run-ended.new.marks c.run-ended.result (c.run-ended.ensures (record { entry = a.setting; exit = a.setting })) h
+          c.finish.result c.finish.new.table c.finish.new.setting c.finish.ensures.table_after c.finish.ensures.setting_after c.finish.ensures.result_value;
       kept = λ n. absurd (n h);
     }

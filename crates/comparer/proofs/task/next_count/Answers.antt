@@ -8,12 +8,12 @@ use Rattle.comparer.proofs.task.next_count.Goals as goal
 
 pub returns-then-constraint-eq1 : goal.returns-then-constraint-eq1
 unfolding next_rows
-returns c output =
+returns-then-constraint-eq1 c output =
     let constraint = ap (λ (r : Literal). r.0) c.constraint.ensures in
     rw (eq-eqb _ 1 (sym constraint ∙ c.if-constraint-eq1.true)) refl
 
 pub returns : goal.returns
 unfolding next_rows
-returns-2 c output =
+returns c output =
     let constraint = ap (λ (r : Literal). r.0) c.constraint.ensures in
     rw (ne_eqb _ 1 (λ e. c.if-constraint-eq1.false (constraint ∙ e))) refl

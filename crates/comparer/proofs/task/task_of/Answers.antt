@@ -36,7 +36,7 @@ returns c =
             c.inputs-inputs.ensures,
           ) refl;
       count = ap₂ ◌+◌ vertices (c.next_count.ensures a.output);
-      c = c.inputs-inputs.ensures;
+      inputs = c.inputs-inputs.ensures;
       size = refl;
       rows = refl;
       steps = refl;

@@ -4,7 +4,6 @@ use Prim.Native.Nat.{◌*◌}
 use Rattle.comparer.proofs.RunLaws.{asked, lent-long, posed-few, ran}
 use Rattle.sweep_state.specs.code.Meet.{Workspace, workspace}
 use Rattle.sweep_state.specs.code.Arrays.{arrays}
-use borrow.Author.Rules.{rules}
 use lib.Seq.{length-take-le}
 use mathlib.Core.Path.{sym}
 use native.Mathlib.Omega.{arith}
@@ -14,15 +13,15 @@ pub slice_bounds-sweep-end : goal.slice_bounds-sweep-end
 slice_bounds-sweep-end c =
     let a = c.args in
     lent-long a.table.now a.output a.limits c.requires.accepted c.requires.known c.requires.within c.task_of-task.result c.task_of-task.ensures
-    a.pairs.now c.copy_in.new.pairs.0 c.copy_in.ensures
+    a.pairs.now c.copy_in.new.pairs c.copy_in.ensures
 
 pub slice_bounds-sweep-end-2 : goal.slice_bounds-sweep-end-2
 slice_bounds-sweep-end-2 c =
     let a = c.args in
     sym
-    (length-take-le (2 * c.task_of-task.result.count) c.copy_in.new.pairs.0
+    (length-take-le (2 * c.task_of-task.result.count) c.copy_in.new.pairs
     (lent-long a.table.now a.output a.limits c.requires.accepted c.requires.known c.requires.within c.task_of-task.result c.task_of-task.ensures
-    a.pairs.now c.copy_in.new.pairs.0 c.copy_in.ensures))
+    a.pairs.now c.copy_in.new.pairs c.copy_in.ensures))
 
 pub slice_bounds-sweep-end-3 : goal.slice_bounds-sweep-end-3
 slice_bounds-sweep-end-3 c =
@@ -36,14 +35,14 @@ pub sweep-requires : goal.sweep-requires
 sweep-requires c =
     let a = c.args in
     asked a.table.now a.output a.limits c.requires.accepted c.requires.known c.requires.within c.task_of-task.result c.task_of-task.ensures
-    a.pairs.now c.copy_in.new.pairs.0 c.copy_in.ensures a.pairs.now a.look.now a.diagrams.now a.stages.now a.rows.now a.marks.now
+    a.pairs.now c.copy_in.new.pairs c.copy_in.ensures a.pairs.now a.look.now a.diagrams.now a.stages.now a.rows.now a.marks.now
     c.requires.room
 
 pub returns : goal.returns
 returns c setting =
     let a = c.args in
     let l = c.sweep.new in
-    let after : Workspace = workspace l.0 (arrays l.1.1.0 l.1.1.1.0 l.1.1.1.1.0 l.1.1.1.1.1.0) in
+    let after : Workspace = workspace l.pairs (arrays l.diagrams l.stages l.rows l.marks) in
     ran a.table.now a.output a.limits c.requires.accepted c.requires.known c.requires.within c.task_of-task.result c.task_of-task.ensures
-    a.pairs.now c.copy_in.new.pairs.0 c.copy_in.ensures a.pairs.now a.look.now a.diagrams.now a.stages.now a.rows.now a.marks.now
-    c.requires.room setting.entry.now after c.sweep.result c.sweep.ensures c.sweep.auto.1.1.1.1.1.0
+    a.pairs.now c.copy_in.new.pairs c.copy_in.ensures a.pairs.now a.look.now a.diagrams.now a.stages.now a.rows.now a.marks.now
+    c.requires.room setting.entry.now after c.sweep.result c.sweep.ensures c.sweep.auto.marks
