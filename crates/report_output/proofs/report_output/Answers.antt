@@ -20,7 +20,7 @@ pub slice_bounds-put_line-end-2 : goal.slice_bounds-put_line-end-2
 slice_bounds-put_line-end-2 c =
     let inputs = c.inputs-inputs in
     sym
-    (length-take-le inputs.result c.compare-reply.new.setting.0
+    (length-take-le inputs.result c.compare-reply.new.setting
     (omega (arith, inputs.ensures, c.requires.ready.accepted.formed.inputs, c.requires.ready.room, c.setting-1.given)))
 
 pub put_line-requires : goal.put_line-requires
@@ -28,45 +28,9 @@ put_line-requires c =
     let inputs = c.inputs-inputs in
     let within = c.requires.ready.accepted.formed.inputs in
     let front =
-    length-take-le inputs.result c.compare-reply.new.setting.0
+    length-take-le inputs.result c.compare-reply.new.setting
     (omega (arith, inputs.ensures, within, c.requires.ready.room, c.setting-1.given)) in
     omega (arith, inputs.ensures, front, within, c.requires.reply_room_in_bounds)
-
--- SETTLED? Need-same-length
--- same_length : tie.Need-same-length
--- same_length c = c.before.out.given
-
--- SETTLED? Need-same-length-2
--- same-length-2 : tie.Need-same-length-2
--- same-length-2 c = c.before.before.before.before.before.before.before.before.before.before.before.before.before.before.before.before.before.before.before.before.table.given
-
--- SETTLED? Need-same-length-3
--- same-length-3 : tie.Need-same-length-3
--- same-length-3 c = c.before.before.before.before.before.before.before.before.before.before.before.before.before.before.before.before.before.before.pairs.given
-
--- SETTLED? Need-same-length-4
--- same-length-4 : tie.Need-same-length-4
--- same-length-4 c = c.before.before.before.before.before.before.before.before.before.before.before.before.before.before.before.before.look.given
-
--- SETTLED? Need-same-length-5
--- same-length-5 : tie.Need-same-length-5
--- same-length-5 c = c.before.before.before.before.before.before.before.before.before.before.before.before.before.before.diagrams.given
-
--- SETTLED? Need-same-length-6
--- same-length-6 : tie.Need-same-length-6
--- same-length-6 c = c.before.before.before.before.before.before.before.before.before.before.before.before.stages.given
-
--- SETTLED? Need-same-length-7
--- same-length-7 : tie.Need-same-length-7
--- same-length-7 c = c.before.before.before.before.before.before.before.before.before.before.rows.given
-
--- SETTLED? Need-same-length-8
--- same-length-8 : tie.Need-same-length-8
--- same-length-8 c = c.before.before.before.before.before.before.before.before.marks.given
-
--- SETTLED? Need-same-length-9
--- same-length-9 : tie.Need-same-length-9
--- same-length-9 c = c.before.before.before.before.before.before.setting.given
 
 pub returns : goal.returns
 returns c =
@@ -75,9 +39,9 @@ returns c =
     let a = c.args in
     let g : Given = asked a.output (holding a.table.now a.pairs.now a.look.now a.diagrams.now a.stages.now a.rows.now a.marks.now a.setting.now) in
     let within = c.requires.ready.accepted.formed.inputs in
-    let table-left = call.new.0 in
-    let marks-left = call.new.1.1.1.1.1.1.1.1.0 in
-    let setting-left = call.new.1.1.1.1.1.1.1.1.1.0 in record {
+    let table-left = call.new.table in
+    let marks-left = call.new.marks in
+    let setting-left = call.new.setting in record {
       stored_within = compared-stored g call.result table-left marks-left setting-left call.ensures.result a.edition within (omega (arith, within, c.requires.ready.room, c.setting-1.given))
           (rw inputs.ensures at c.put_line.ensures);
       left_to_next = compared-next g call.result table-left marks-left setting-left call.ensures.result _
