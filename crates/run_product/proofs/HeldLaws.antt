@@ -1,10 +1,10 @@
--- References stay good while rows are added, given back, and followed.
+-- References where there is none yet, of literals, and followed.
 use Prim.Native.Nat.{◌%◌, ◌-◌, ◌/◌, ◌≤◌, suc, zero, ℕ}
 use Rattle.bdd.proofs.DiagramLaws.{cofactor-below, constant-reference}
 use Rattle.bdd.proofs.ReferenceLaws.{edge_row}
 use Rattle.bdd.specs.Diagram.{Reference, cofactor, edge}
 use Rattle.bdd.specs.code.Store.{Store}
-use Rattle.run_product.specs.code.Held.{AllWalk, Held, Walks}
+use Rattle.run_product.specs.code.Held.{Held, Walks}
 use lib.ListN.{get_or-eq_default, get_or, replicate}
 use mathlib.Core.Bool.{Bool}
 use mathlib.Core.List.{List, []}
@@ -27,10 +27,6 @@ edge-held {references = references} H p e =
     rw e (record { stored = rw (edge_row (get_or references (p / 2 % 128) 0) p) R.stored; fits = rw (edge_row (get_or references (p / 2 % 128) 0) p) R.fits })
 
 -- References followed.
-pub held_walks : {rows references : List ℕ} {limit used inputs : ℕ} → Held rows references limit used inputs → AllWalk rows references inputs
-held_walks {used = used} H =
-    record { each = λ v. record { used = used; canonical = H.store.canonical; long = omega (arith, H.store.room.used, H.store.room.long); here = H.each v } }
-
 pub walks_down : {rows : List ℕ} {level r : ℕ} → Walks rows level r → 1 ≤ level → (b : Bool) {e : ℕ} → e ≡ cofactor rows b level r → Walks rows (level - 1) e
 walks_down {rows} {level} {r} W pos b eq =
     record {
