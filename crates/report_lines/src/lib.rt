@@ -1,5 +1,6 @@
 // The lines of a loaded table.
 #![tactic(auto)]
+
 ghost use Rattle.std.specs.Prelude.{◌*◌, ◌+◌, ◌≤◌, length, ◌≡◌};
 ghost use Rattle.comparer.specs.Lent.{slices};
 ghost use Rattle.report_format.specs.Report.{StoredWithin};
