@@ -1,5 +1,6 @@
 // The program's call: two files, and the report on them as bytes.
 #![tactic(auto)]
+
 ghost use Rattle.comparer.specs.Lent.{slices};
 ghost use Rattle.report_pair.specs.Lent.{Front, Reported};
 
