@@ -1,0 +1,10 @@
+-- Nothing has to hold from turn to turn.
+-- The measure is how many vertices are left.
+use Rattle.std.proofs.Common.{◌-◌}
+use Rattle.run_sweep.proofs.show.show_marks.Given as goal
+
+abbrev pub invariant-loop-v : goal.invariant-loop-v
+invariant-loop-v g l = Unit {0}
+
+abbrev pub decreases-loop-v : goal.decreases-loop-v
+decreases-loop-v g l = l.count - l.v
