@@ -15,4 +15,4 @@ returns c =
     let a = c.args in
     let k : ℕ = a.at + 67 + length a.setting.now - a.at in
     let room : ℕ = LINE_ROOM + length a.setting.now in
-    part_stored a.out.now a.at k room (room_for (said_of a.reply) a.setting.now) _ _ write.result (omega (arith, c.requires)) (omega (arith, room-short (said_of a.reply) a.setting.now)) (omega arith) c.out-1.given.0 write.ensures
+    part_stored a.out.now a.at k room (room_for (said_of a.reply) a.setting.now) _ _ write.result (omega (arith, c.requires)) (omega (arith, room-short (said_of a.reply) a.setting.now)) (omega arith) write.auto.out write.ensures
