@@ -14,14 +14,14 @@ inputs-inputs-requires c = c.requires.ready.accepted.formed
 
 pub slice_bounds-put_line-end : goal.slice_bounds-put_line-end
 slice_bounds-put_line-end c =
-    omega (arith, c.inputs-inputs.ensures, c.requires.ready.accepted.formed.inputs, c.requires.ready.room, c.setting-1.given)
+    omega (arith, c.inputs-inputs.ensures, c.requires.ready.accepted.formed.inputs, c.requires.ready.room, c.compare-reply.auto.setting)
 
 pub slice_bounds-put_line-end-2 : goal.slice_bounds-put_line-end-2
 slice_bounds-put_line-end-2 c =
     let inputs = c.inputs-inputs in
     sym
     (length-take-le inputs.result c.compare-reply.new.setting
-    (omega (arith, inputs.ensures, c.requires.ready.accepted.formed.inputs, c.requires.ready.room, c.setting-1.given)))
+    (omega (arith, inputs.ensures, c.requires.ready.accepted.formed.inputs, c.requires.ready.room, c.compare-reply.auto.setting)))
 
 pub put_line-requires : goal.put_line-requires
 put_line-requires c =
@@ -29,7 +29,7 @@ put_line-requires c =
     let within = c.requires.ready.accepted.formed.inputs in
     let front =
     length-take-le inputs.result c.compare-reply.new.setting
-    (omega (arith, inputs.ensures, within, c.requires.ready.room, c.setting-1.given)) in
+    (omega (arith, inputs.ensures, within, c.requires.ready.room, c.compare-reply.auto.setting)) in
     omega (arith, inputs.ensures, front, within, c.requires.reply_room_in_bounds)
 
 pub returns : goal.returns
@@ -42,8 +42,8 @@ returns c =
     let table-left = call.new.table in
     let marks-left = call.new.marks in
     let setting-left = call.new.setting in record {
-      stored_within = compared-stored g call.result table-left marks-left setting-left call.ensures.result a.edition within (omega (arith, within, c.requires.ready.room, c.setting-1.given))
+      stored_within = compared-stored g call.result table-left marks-left setting-left call.ensures.result a.edition within (omega (arith, within, c.requires.ready.room, c.compare-reply.auto.setting))
           (rw inputs.ensures at c.put_line.ensures);
       left_to_next = compared-next g call.result table-left marks-left setting-left call.ensures.result _
-          (same-room c.pairs-1.given c.look-1.given c.diagrams-1.given c.stages-1.given c.rows-1.given);
+          (same-room c.compare-reply.auto.pairs c.compare-reply.auto.look c.compare-reply.auto.diagrams c.compare-reply.auto.stages c.compare-reply.auto.rows);
     }
