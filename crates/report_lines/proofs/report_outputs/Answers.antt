@@ -30,10 +30,10 @@ loop-output-preserved c =
     let p = c.loop-output.invariant.0 in (
       printing_more p c.args.outputs turn c.requires.reply_room_in_bounds line.left_to_next
           (record {
-            room = same-room c.pairs-1.given c.look-1.given c.diagrams-1.given c.stages-1.given c.rows-1.given ∙ p.same.room;
-            table = c.table-1.given ∙ p.same.table;
-            marks = c.marks-1.given ∙ p.same.marks;
-            setting = c.setting-1.given ∙ p.same.setting;
+            room = same-room c.report_output-at.auto.pairs c.report_output-at.auto.look c.report_output-at.auto.diagrams c.report_output-at.auto.stages c.report_output-at.auto.rows ∙ p.same.room;
+            table = c.report_output-at.auto.table ∙ p.same.table;
+            marks = c.report_output-at.auto.marks ∙ p.same.marks;
+            setting = c.report_output-at.auto.setting ∙ p.same.setting;
           })
           line.stored_within,
       omega (arith, turn),

@@ -15,7 +15,7 @@ report_outputs-requires c =
     let count = c.outputs-outputs.ensures in record {
       ready = c.requires.ready;
       outputs_value = count;
-      reply_room_in_bounds = omega (arith, count, head.stored.place, head.short, c.out-1.given, formed.outputs, c.requires.report_room_in_bounds);
+      reply_room_in_bounds = omega (arith, count, head.stored.place, head.short, c.write_head-start.auto.out, formed.outputs, c.requires.report_room_in_bounds);
     }
 
 pub returns : goal.returns
