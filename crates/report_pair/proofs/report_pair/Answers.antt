@@ -69,9 +69,9 @@ returns-in-Accepted c =
         result =
             accepted_report a.left.now a.right.now l long (answer_of load.result) load.ensures.result load.new.table load.ensures.table _ _ told _ _ _ table.result
             (ap (λ (r : CompareRoom). record { table = load.new.table; output = 0; limits = program_limits; room = r; marks = a.marks.now; setting = a.setting.now })
-            (same-room c.pairs-1.given c.look-1.given c.diagrams-1.given c.stages-1.given refl))
+            (same-room load.auto.pairs load.auto.look load.auto.literals load.auto.outputs refl))
             table.ensures.stored_within.stored table.ensures.left_after;
         kept = λ h. clash (works-accepted a.left.now a.right.now l long _ _ (sym load.ensures.result ∙ told)) h;
       };
-      front = front-stored bounds.out c.out-in-Accepted-1.given table.ensures.stored_within;
+      front = front-stored bounds.out table.auto.out table.ensures.stored_within;
     }
