@@ -3,8 +3,5 @@
 use Rattle.std.proofs.Common.{length, ◌-◌}
 use Rattle.run_compare.proofs.are_words.Given as goal
 
-abbrev pub invariant-loop-i : goal.invariant-loop-i
-invariant-loop-i l = Unit {0}
-
 abbrev pub decreases-loop-i : goal.decreases-loop-i
 decreases-loop-i l = length l.words - l.i
