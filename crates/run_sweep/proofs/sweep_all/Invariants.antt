@@ -3,8 +3,5 @@
 use Rattle.std.proofs.Common.{◌-◌}
 use Rattle.run_sweep.proofs.sweep_all.Given as goal
 
-abbrev pub invariant-loop-k : goal.invariant-loop-k
-invariant-loop-k g l = Unit {0}
-
 abbrev pub decreases-loop-k : goal.decreases-loop-k
 decreases-loop-k g l = l.count - l.k

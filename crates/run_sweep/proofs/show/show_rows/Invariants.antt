@@ -3,8 +3,5 @@
 use Rattle.std.proofs.Common.{◌-◌}
 use Rattle.run_sweep.proofs.show.show_rows.Given as goal
 
-abbrev pub invariant-loop-v : goal.invariant-loop-v
-invariant-loop-v g l = Unit {0}
-
 abbrev pub decreases-loop-v : goal.decreases-loop-v
 decreases-loop-v g l = l.count - l.v
