@@ -1,5 +1,6 @@
 // The program: compares the drawings `left.tsv` and `right.tsv`, and prints a line for each output or why they are refused.
 #![tactic(auto)]
+
 // A byte more than a file may have, so that a longer one is seen to be too long.
 const FILE_ROOM: usize = netlist_model::MAX_BYTES + 1;
 
