@@ -441,7 +441,7 @@ module _ (g : Given) (h : refusal_of g ≡ 0) {loaded : List ℕ} (s : Since loa
             (same-run v x.before l m.0
             (mark-unmerged v l (λ z. let i : ◌≡◌ {A = ℕ} 3 0 = sym m.1 ∙ sym (mark-written v m.0) ∙ z in omega arith)))
             ∙ x.ran;
-        rows_after_lem = x.rows_after_lem;
+        rows_after = x.rows_after;
         steps-after = x.steps-after;
       }
 

@@ -16,7 +16,7 @@ use Rattle.netlist_model.specs.Records.{fields_record, file_lines, line_of, part
 use Rattle.sweep_model.specs.Normalise.{folded_row, found_row, normalise, normalise_from, normalise_row, resolve, take_at, takes_from, wake, wake_at}
 use Rattle.sweep_model.specs.State.{bare?, dropped?, gone?, has?, open?, waits?}
 use Rattle.sweep_model.specs.Sweep.{and_then, begin, conclude, give_row, go, go_for, look, look_at, multiply, open_at, pick_from, ready?, result_of, scan_from, smaller, start, sweep, swept, top_part, turns_left, turns_of, twin_from, visit}
-use Rattle.sweep_model.specs.Sweep.{give_inputs as giveRows}
+use Rattle.sweep_model.specs.Sweep.{give_inputs as give_rows}
 use Rattle.table.specs.Refusals.{first_refusal}
 use Rattle.table.specs.Table.{all_below?, beyond_limits?, downward?, first_functions, functions_of, graph_of, inputs_from, malformed?, out_of_order?, output_words, pairs, row_below?, rows_of, side_outputs}
 use Rattle.table.specs.Values.{vertex_values}
@@ -34,7 +34,7 @@ use mathlib.Core.List.{List, ◌∷◌}
 use mathlib.Core.Path.{◌≡◌, refl}
 
 record Tables : Type 0 where
-  and_or_lem : loaded_table and_file or_file ≡ 2 ∷ 1 ∷ 1 ∷ 2 ∷ 4 ∷ 6 ∷ 6 ∷ 1 ∷ drop 8 (replicate max_table 0)
+  and_or_card : loaded_table and_file or_file ≡ 2 ∷ 1 ∷ 1 ∷ 2 ∷ 4 ∷ 6 ∷ 6 ∷ 1 ∷ drop 8 (replicate max_table 0)
   inverse : loaded_table (output_file 49 50) (output_file 49 51) ≡ 1 ∷ 0 ∷ 1 ∷ 2 ∷ 3 ∷ 1 ∷ drop 6 (replicate max_table 0)
   constants : loaded_table (output_file 48 48) (output_file 48 49) ≡ 0 ∷ 0 ∷ 1 ∷ 0 ∷ 1 ∷ 1 ∷ drop 6 (replicate max_table 0)
   named : loaded_table named_and turned_and ≡ 2 ∷ 1 ∷ 1 ∷ 2 ∷ 5 ∷ 6 ∷ 6 ∷ 1 ∷ drop 8 (replicate max_table 0)
@@ -44,7 +44,7 @@ record Tables : Type 0 where
 
 tables : Tables
 unfolding due_after below? check_file check_from constraints_in due? finish first_refusal formed? gates_in header? known? limited? more? name_count names_in outputs_in read_by read_netlist twice? digits_from numeral_of fields_record file_lines line_of part_lines name? operation_of record_of unended fold_of first_vertex own_words ask_and ask_gate ask_gates build_file build_pair empty_build folded_or_not found_or_made literals_from counts_differ? first_lacked input_for load_result paired place_of read_result read_second reference_for short_slice? tally_of and_count table_after table_of table_words
-tables = record { and_or_lem = refl; inverse = refl; constants = refl; named = refl; turned = refl; allowed = refl; none_allowed = refl }
+tables = record { and_or_card = refl; inverse = refl; constants = refl; named = refl; turned = refl; allowed = refl; none_allowed = refl }
 
 -- What a comparison of a pair's first output comes to, by the table that the pair loads to.
 by_table : {A : Type 0} (part : Left → A) (left right table : List ℕ) (x : A) → loaded_table left right ≡ table
@@ -52,10 +52,10 @@ by_table : {A : Type 0} (part : Left → A) (left right table : List ℕ) (x : A
 by_table part left right table x e f = rw e f
 
 replying : Replying
-unfolding answer_to answered beyond? compared entry_rows graph_words looked_at next_rows outputs_left outside? problem_of refusal_of row_words setting_bytes setting_left slices? table_left turned_back output_words pairs rows_of side_outputs malformed? beyond_limits? out_of_order? downward? all_below? row_below? graph_of functions_of first_functions inputs_from first_refusal vertex_values conj constant? constantly input invert same? sweep result_of conclude give_row go go_for multiply open_at pick_from ready? scan_from smaller swept top_part turns_left turns_of twin_from visit giveRows start look look_at and_then begin normalise normalise_from normalise_row folded_row found_row resolve takes_from take_at wake_at wake has? gone? bare? dropped? open? waits? said_by fold_of first_vertex own_words ◌and_then◌ add_part add_row count_step plain run among distinct filter alike? cofactors depends? parts size terminal? first_difference value_at
+unfolding answer_to answered beyond? compared entry_rows graph_words looked_at next_rows outputs_left outside? problem_of refusal_of row_words setting_bytes setting_left slices? table_left turned_back output_words pairs rows_of side_outputs malformed? beyond_limits? out_of_order? downward? all_below? row_below? graph_of functions_of first_functions inputs_from first_refusal vertex_values conj constant? constantly input invert same? sweep result_of conclude give_row go go_for multiply open_at pick_from ready? scan_from smaller swept top_part turns_left turns_of twin_from visit give_rows start look look_at and_then begin normalise normalise_from normalise_row folded_row found_row resolve takes_from take_at wake_at wake has? gone? bare? dropped? open? waits? said_by fold_of first_vertex own_words ◌and_then◌ add_part add_row count_step plain run among distinct filter alike? cofactors depends? parts size terminal? first_difference value_at
 replying =
     record {
-      and_or-reply = by_table (λ l. l.reply) _ _ _ _ tables.and_or_lem refl;
+      and_or-reply = by_table (λ l. l.reply) _ _ _ _ tables.and_or_card refl;
       inverse-reply = by_table (λ l. l.reply) _ _ _ _ tables.inverse refl;
       inverse-setting = by_table (λ l. l.setting) _ _ _ _ tables.inverse refl;
       constants_reply = by_table (λ l. l.reply) _ _ _ _ tables.constants refl;

@@ -14,7 +14,7 @@ use Rattle.demands.specs.Example.{Example, after, before, first_call, least_limi
 use Rattle.load_model.specs.Build.{ask_and, ask_gate, ask_gates, build_file, build_pair, empty_build, folded_or_not, found_or_made, literals_from}
 use Rattle.load_model.specs.Cards.{and_file, room}
 use Rattle.load_model.specs.Load.{accepted, counts_differ?, load_result, read_result, read_second, table_of, table_words, tally_of}
-use Rattle.load_model.specs.Load.{short_slice? as shortLoad?}
+use Rattle.load_model.specs.Load.{short_slice? as short_load?}
 use Rattle.netlist_model.specs.Check.{below?, check_file, check_from, constraints_in, due?, due_after, finish, formed?, gates_in, header?, known?, limited?, more?, names_in, outputs_in, read, read_by, read_netlist, twice?}
 use Rattle.netlist_model.specs.Meaning.{and_count, ands_from, file_ands, gate_ands, operation_function}
 use Rattle.netlist_model.specs.Names.{first_lacked, name_count, place_of}
@@ -27,7 +27,7 @@ use Rattle.sweep_model.specs.Claims.{and_function, and_steps, sum}
 use Rattle.sweep_model.specs.Normalise.{folded_row, found_row, normalise, normalise_from, normalise_row, resolve, take_at, takes_from}
 use Rattle.sweep_model.specs.State.{bare?, dropped?, gone?, has?, open?, waits?}
 use Rattle.sweep_model.specs.Sweep.{and_then, begin, conclude, give_row, go, go_for, look, look_at, meet, multiply, open_at, pick_from, ready?, result_of, scan_from, smaller, start, sweep, swept, top_part, turns_left, turns_of, twin_from, visit}
-use Rattle.sweep_model.specs.Sweep.{drop_vertex as drop_at, give_inputs as giveRows}
+use Rattle.sweep_model.specs.Sweep.{drop_vertex as drop_at, give_inputs as give_rows}
 use Rattle.table.specs.Refusals.{first_refusal}
 use Rattle.table.specs.Table.{all_below?, beyond_limits?, downward?, first_functions, functions_of, graph_of, inputs_from, malformed?, out_of_order?, output_words, pairs, row_below?, rows_of, side_outputs}
 use Rattle.table.specs.Values.{vertex_values}
@@ -60,7 +60,7 @@ second = refl
 
 -- The load is accepted.
 accepts : load_result and_file other_file room ≡ accepted 1 (record { asked = 2; folded = 0; found = 0; made = 2 })
-unfolding fold_of first_vertex own_words ask_and ask_gate ask_gates build_file build_pair empty_build folded_or_not found_or_made literals_from counts_differ? first_lacked load_result read_result read_second shortLoad? tally_of and_count first_refusal
+unfolding fold_of first_vertex own_words ask_and ask_gate ask_gates build_file build_pair empty_build folded_or_not found_or_made literals_from counts_differ? first_lacked load_result read_result read_second short_load? tally_of and_count first_refusal
 accepts = rw reads-left (rw (reads-right, second) refl)
 
 -- The table after it.
@@ -82,7 +82,7 @@ record Computed : Type 0 where
   third_reply : (compared (comparison_of 0 size_one words)).reply ≡ Said.size 2 6 0
 
 computed : Computed
-unfolding answer_to answered beyond? compared entry_rows graph_words looked_at next_rows outputs_left outside? problem_of refusal_of row_words setting_bytes setting_left short_slice? table_left turned_back output_words pairs rows_of side_outputs malformed? beyond_limits? out_of_order? downward? all_below? row_below? graph_of functions_of first_functions inputs_from first_refusal vertex_values conj constant? constantly input invert same? sweep result_of conclude give_row go go_for meet multiply open_at pick_from ready? scan_from smaller swept top_part turns_left turns_of twin_from visit drop_at giveRows start look look_at and_then begin normalise normalise_from normalise_row folded_row found_row resolve takes_from take_at has? gone? bare? dropped? open? waits? said_by fold_of first_vertex own_words ◌and_then◌ add_part add_row count_step plain run among distinct filter alike? cofactors depends? parts size terminal? first_difference value_at
+unfolding answer_to answered beyond? compared entry_rows graph_words looked_at next_rows outputs_left outside? problem_of refusal_of row_words setting_bytes setting_left short_slice? table_left turned_back output_words pairs rows_of side_outputs malformed? beyond_limits? out_of_order? downward? all_below? row_below? graph_of functions_of first_functions inputs_from first_refusal vertex_values conj constant? constantly input invert same? sweep result_of conclude give_row go go_for meet multiply open_at pick_from ready? scan_from smaller swept top_part turns_left turns_of twin_from visit drop_at give_rows start look look_at and_then begin normalise normalise_from normalise_row folded_row found_row resolve takes_from take_at has? gone? bare? dropped? open? waits? said_by fold_of first_vertex own_words ◌and_then◌ add_part add_row count_step plain run among distinct filter alike? cofactors depends? parts size terminal? first_difference value_at
 computed =
     record { first-accepted = refl; first-reply = refl; first-setting = refl; first-table = refl; second-reply = refl; second-table = refl; third_reply = refl }
 

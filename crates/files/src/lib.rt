@@ -28,7 +28,7 @@ pub fn read_file(files: &impl Files, path: &[u8], bytes: &mut [u8]) -> usize
     end
 }
 
-// A file's name is text. Bytes that are none name no file.
+// A file's name is text. Bytes that are not text name no file.
 fn open_read<R: Files>(files: &R, path: &[u8]) -> io::Result<R::File> {
     match from_utf8(path) {
         Ok(name) => File::open(files, name),

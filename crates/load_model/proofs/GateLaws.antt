@@ -72,11 +72,11 @@ module _ {n : ℕ} {b : Build} (g : Good n b) (p q : ℕ) (hp : p < 2 * b.count)
       (ask_below xor_two_lem.good (negate (xor_one b p q).literal) (negate (xor_two b p q).literal) not_one not_two)
 
 -- What holds of the members of a list, of one more and of the default holds of all of them.
-pub get_d_more : {A : Type 0} (P : A → Type 0) (xs : List A) (x d : A) → ((i : ℕ) → P (get_or xs i d)) → P x → (i : ℕ) → P (get_or (xs ++ (x ∷ [])) i d)
-get_d_more P [] x d h k zero = k
-get_d_more P [] x d h k (suc i) = h i
-get_d_more P (y ∷ xs) x d h k zero = h 0
-get_d_more P (y ∷ xs) x d h k (suc i) = get_d_more P xs x d (λ j. h (suc j)) k i
+pub get_or-more : {A : Type 0} (P : A → Type 0) (xs : List A) (x d : A) → ((i : ℕ) → P (get_or xs i d)) → P x → (i : ℕ) → P (get_or (xs ++ (x ∷ [])) i d)
+get_or-more P [] x d h k zero = k
+get_or-more P [] x d h k (suc i) = h i
+get_or-more P (y ∷ xs) x d h k zero = h 0
+get_or-more P (y ∷ xs) x d h k (suc i) = get_or-more P xs x d (λ j. h (suc j)) k i
 
 -- What asking for a gate leaves.
 abbrev pub after_gate : Traced → Gate → Traced
@@ -107,7 +107,7 @@ module _ {n : ℕ} {t : Traced} (h : Ready n t) where
         record {
           good = after_gate_step.good;
           below =
-              get_d_more (λ (r : ℕ). r < 2 * (after_gate t x).build.count) t.literals (ask_gate t.build x.op p q).literal 0
+              get_or-more (λ (r : ℕ). r < 2 * (after_gate t x).build.count) t.literals (ask_gate t.build x.op p q).literal 0
               (λ i. step_below after_gate_step (h.below i))
               (gate-below h.good p q (literal_for-below x.p) (literal_for-below x.q) x.op);
         }

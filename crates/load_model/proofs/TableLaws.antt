@@ -79,15 +79,15 @@ module _ (n : ℕ) (rs : List Pair) (left right : List ℕ) (r : ℕ) (rest : Li
               whole = omega (arith, length_laid);
             };
         rows = rw laid_rows down;
-        references = rw laid_outputs (λ k h. get_d_both left right k Below-left Below-right);
+        references = rw laid_outputs (λ k h. get_or-both left right k Below-left Below-right);
         constraint = rw laid_constraint below-constraint;
       }
     where
-      get_d_both : (xs ys : List ℕ) (k : ℕ) → ((k : ℕ) → get_or xs k 0 < 2 * (1 + n + length rs)) → ((k : ℕ) → get_or ys k 0 < 2 * (1 + n + length rs))
+      get_or-both : (xs ys : List ℕ) (k : ℕ) → ((k : ℕ) → get_or xs k 0 < 2 * (1 + n + length rs)) → ((k : ℕ) → get_or ys k 0 < 2 * (1 + n + length rs))
           → get_or (xs ++ ys) k 0 < 2 * (1 + n + length rs)
-      get_d_both [] ys k h g = g k
-      get_d_both (x ∷ xs) ys zero h g = h 0
-      get_d_both (x ∷ xs) ys (suc k) h g = get_d_both xs ys k (λ j. h (suc j)) g
+      get_or-both [] ys k h g = g k
+      get_or-both (x ∷ xs) ys zero h g = h 0
+      get_or-both (x ∷ xs) ys (suc k) h g = get_or-both xs ys k (λ j. h (suc j)) g
 
 module _ (n : ℕ) {b : Build} {rs : List Pair} (g : Grown (empty_build n) rs b) where
   made-count : b.count - (1 + n) ≡ length rs

@@ -3,7 +3,7 @@ ghost use Rattle.std.specs.Prelude.{◌*◌, ◌+◌, ◌<◌, eqb, leb, drop, l
 ghost use Rattle.netlist_model.specs.Check.{ands_of, answer_of, check_file, constraints_due, finish, reached, suits?};
 ghost use Rattle.netlist_model.specs.Limits.{by_name_edition, by_place_edition};
 ghost use Rattle.netlist_model.specs.Names.{name_count};
-ghost use Rattle.netlist_model.specs.Records.{constraint_line, gate_line_lem, header_line_lem, line_with, output_line};
+ghost use Rattle.netlist_model.specs.Records.{constraint_line, gate_line, header_line, line_with, output_line};
 ghost use Rattle.netlist_model.specs.code.Passing.{Counted, Held, NamesThere, SeenThere, StartInside, StartsAt, first_line, front_names, line_record, seen_by, step_of};
 
 use netlist_model::{Body, Checked, Due, Operation, Record, Role, Stepped, Summary};
@@ -76,7 +76,7 @@ fn first_step(role: Role, found: Record) -> Stepped
 }
 
 fn header_step(role: Role, edition: u32, inputs: u32, gates: u32, outputs: u32) -> Stepped
-    ensures { result ≡ step_of [] (Due.First role) (header_line_lem edition inputs gates outputs) }
+    ensures { result ≡ step_of [] (Due.First role) (header_line edition inputs gates outputs) }
 {
     if !is_known(role, edition) {
         return Stepped::Refuse(3);
@@ -222,7 +222,7 @@ fn reached(
 
 fn gate_step(body: Body, op: Operation, p: u32, q: u32) -> Stepped
     requires { Counted body }
-    ensures { result ≡ step_of [] (Due.Later body) (gate_line_lem op p q) }
+    ensures { result ≡ step_of [] (Due.Later body) (gate_line op p q) }
 {
     if body.name != body.names {
         return Stepped::Refuse(5);

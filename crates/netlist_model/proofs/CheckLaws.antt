@@ -12,8 +12,8 @@ use Rattle.netlist_model.specs.Meaning.{and_count}
 use Rattle.netlist_model.specs.Names as names
 use Rattle.netlist_model.specs.Names.{Among, IsName, NewNames, name_count}
 use Rattle.netlist_model.specs.Netlist as netlist
-use Rattle.netlist_model.specs.Netlist.{AllBelow, Downward, Gate, Netlist, Within, body_lines, constraint_reference, gate_line, header_line, netlist_lines}
-use Rattle.netlist_model.specs.Records.{Line, constraint_line, gate_line_lem, header_line_lem, malformed_line, name_line, output_line}
+use Rattle.netlist_model.specs.Netlist.{AllBelow, Downward, Gate, Netlist, Within, body_lines, constraint_reference, gate_line_of, header_line_of, netlist_lines}
+use Rattle.netlist_model.specs.Records.{Line, constraint_line, gate_line, header_line, malformed_line, name_line, output_line}
 use Rattle.netlist_model.specs.declared.Body.{Body}
 use Rattle.netlist_model.specs.declared.Due.TheVariants.{First, Later}
 use Rattle.netlist_model.specs.declared.Operation.{Operation}
@@ -105,7 +105,7 @@ module _ (e i m g o c : ℕ) where
   -- So are the gates.
   gates-passed :
       (n : ℕ) (seen : List (List ℕ)) (k a : ℕ) (ls : List Line) {v : ℕ} {gs : List Gate} → Downward v gs → v ≡ 1 + i + k → k + length gs ≡ g
-      → check_from n seen (Later (body m k 0 0 a 1)) (map gate_line gs ++ ls) ≡ check_from (n + length gs) seen (Later (body m g 0 0 (a + and_count gs) 1)) ls
+      → check_from n seen (Later (body m k 0 0 a 1)) (map gate_line_of gs ++ ls) ≡ check_from (n + length gs) seen (Later (body m g 0 0 (a + and_count gs) 1)) ls
   unfolding and_count
   gates-passed n seen k a ls netlist.Downward.none z h =
       let x : k ≡ g = omega arith in
@@ -115,7 +115,7 @@ module _ (e i m g o c : ℕ) where
   gates-passed n seen k a ls (netlist.Downward.gate {g = x} {gs = gs} p q d) z h =
       let y : n + suc (length gs) ≡ n + 1 + length gs = omega arith in
       let w : a + (ands_of x.op + and_count gs) ≡ a + ands_of x.op + and_count gs = omega arith in
-      check_next n seen (Later (body m k 0 0 a 1)) (Later (body m (k + 1) 0 0 (a + ands_of x.op) 1)) (gate_line x) (map gate_line gs ++ ls)
+      check_next n seen (Later (body m k 0 0 a 1)) (Later (body m (k + 1) 0 0 (a + ands_of x.op) 1)) (gate_line_of x) (map gate_line_of gs ++ ls)
       (gate-next seen (body m k 0 0 a 1) x.op x.p x.q (record { names = refl; room = omega arith }) (record { left = omega arith; right = omega arith }))
       ∙ rw (append-nil seen, y, w) (gates-passed (n + 1) seen (k + 1) (a + ands_of x.op) ls d (omega arith) (omega arith))
 
@@ -173,7 +173,7 @@ lines-passed role {d} w s =
     let z : 0 + and_count d.gates ≡ and_count d.gates = omega arith in
     let last = map constraint_line d.constraints in
     let outputs = map output_line d.outputs ++ last in
-    check_next 1 [] (First role) (Later (after_header role e i g o)) (header_line d) (map name_line d.names ++ body_lines d)
+    check_next 1 [] (First role) (Later (after_header role e i g o)) (header_line_of d) (map name_line d.names ++ body_lines d)
     (header-next [] role e i g o (record { either = w.edition; same = s })
     (record { inputs = w.inputs; gates = w.gates; some = w.some; outputs = w.outputs }))
     ∙ (rw (← names-due w) (names-passed e i m g o c 2 0 (body_lines d) w.names (omega arith)))
@@ -205,7 +205,7 @@ record Left (seen : List (List ℕ)) (b : Body) (ls : List Line) (s : Counts) : 
   gates : List Gate
   outputs : List ℕ
   constraints : List ℕ
-  lines : ls ≡ map name_line names ++ (map gate_line gates ++ (map output_line outputs ++ map constraint_line constraints))
+  lines : ls ≡ map name_line names ++ (map gate_line_of gates ++ (map output_line outputs ++ map constraint_line constraints))
   name_count_lem : b.name + length names ≡ b.names
   gate-count : b.gate + length gates ≡ b.gates
   output-count : b.output + length outputs ≡ b.outputs
@@ -290,7 +290,7 @@ module _ (s : Counts) where
     -- A good gate line, and what is left after it.
     gate-left :
         (op : Operation) (p q : ℕ) (ls : List Line) → GateDue b → GateFits b p q → Left (seen ++ []) (after_gate op b) ls s
-        → Left seen b (gate_line_lem op p q ∷ ls) s
+        → Left seen b (gate_line op p q ∷ ls) s
     unfolding and_count
     gate-left op p q ls due f t =
         let nil : t.names ≡ [] = none_left t.names b.name (omega (arith, t.name_count_lem, due.names)) in
@@ -301,7 +301,7 @@ module _ (s : Counts) where
           gates = record { op = op; p = p; q = q } ∷ t.gates;
           outputs = t.outputs;
           constraints = t.constraints;
-          lines = ap (λ (l : List Line). gate_line_lem op p q ∷ l) (rw nil at t.lines);
+          lines = ap (λ (l : List Line). gate_line op p q ∷ l) (rw nil at t.lines);
           name_count_lem = omega (arith, due.names);
           gate-count = omega (arith, t.gate-count);
           output-count = t.output-count;
@@ -372,8 +372,8 @@ module _ (s : Counts) where
   left file.Legible.none n seen b one e = left-none n seen b e
   left (file.Legible.next {l = malformed_line} {ls = ls} f g) n seen b one e =
       refusal (sym (check_refused n seen (Later b) malformed_line ls 2 (malformed-refused seen (Later b))) ∙ e)
-  left (file.Legible.next {l = header_line_lem x i g o} {ls = ls} f r) n seen b one e =
-      refusal (sym (check_refused n seen (Later b) (header_line_lem x i g o) ls 5 (header-again seen b x i g o)) ∙ e)
+  left (file.Legible.next {l = header_line x i g o} {ls = ls} f r) n seen b one e =
+      refusal (sym (check_refused n seen (Later b) (header_line x i g o) ls 5 (header-again seen b x i g o)) ∙ e)
   left (file.Legible.next {l = name_line name} {ls = ls} f r) n seen b one e =
       name-cases seen b name
       (λ c. and_then n c (λ next. check_from (n + 1) (seen ++ name ∷ []) next ls) ≡ accepted s → Left seen b (name_line name ∷ ls) s)
@@ -381,12 +381,12 @@ module _ (s : Counts) where
       (λ h new g. name-left seen b name ls (spelled-name (f (λ m. let z : ◌≡◌ {A = ℕ} 0 1 = cc in omega arith)) name refl) new
       (left r (n + 1) (seen ++ name ∷ []) (after_name b) one g))
       (sym (check_step n seen (Later b) (name_line name) ls) ∙ e)
-  left (file.Legible.next {l = gate_line_lem op p q} {ls = ls} f r) n seen b one e =
+  left (file.Legible.next {l = gate_line op p q} {ls = ls} f r) n seen b one e =
       gate-cases seen b op p q
-      (λ c. and_then n c (λ next. check_from (n + 1) (seen ++ []) next ls) ≡ accepted s → Left seen b (gate_line_lem op p q ∷ ls) s)
+      (λ c. and_then n c (λ next. check_from (n + 1) (seen ++ []) next ls) ≡ accepted s → Left seen b (gate_line op p q ∷ ls) s)
       (λ h. refusal) (λ h k. refusal)
       (λ due fits g. gate-left seen b op p q ls due fits (left r (n + 1) (seen ++ []) (after_gate op b) one g))
-      (sym (check_step n seen (Later b) (gate_line_lem op p q) ls) ∙ e)
+      (sym (check_step n seen (Later b) (gate_line op p q) ls) ∙ e)
   left (file.Legible.next {l = output_line x} {ls = ls} f r) n seen b one e =
       (output_step seen b x).cases
       (λ c. and_then n c (λ next. check_from (n + 1) (seen ++ []) next ls) ≡ accepted s → Left seen b (output_line x ∷ ls) s)
@@ -410,7 +410,7 @@ module _ (s : Counts) where
 
   -- A good line 1, and what is left after it.
   header-taken : (role : Role) (e i g o : ℕ) (ls : List Line) → Known role e → Limited i g o → Left [] (after_header role e i g o) ls s
-      → Taken role (header_line_lem e i g o ∷ ls)
+      → Taken role (header_line e i g o ∷ ls)
   unfolding netlist_lines body_lines name_count
   header-taken role e i g o ls k l t =
       let em : name_count e i ≡ length t.names = omega (arith, t.name_count_lem) in
@@ -449,14 +449,14 @@ module _ (s : Counts) where
       refusal (sym (check_refused 1 [] (First role) malformed_line ls 2 (malformed-refused [] (First role))) ∙ e)
   taken role (file.Legible.next {l = name_line name} {ls = ls} f r) e =
       refusal (sym (check_refused 1 [] (First role) (name_line name) ls 5 (name-first [] role name)) ∙ e)
-  taken role (file.Legible.next {l = gate_line_lem op p q} {ls = ls} f r) e =
-      refusal (sym (check_refused 1 [] (First role) (gate_line_lem op p q) ls 5 (gate-first [] role op p q)) ∙ e)
+  taken role (file.Legible.next {l = gate_line op p q} {ls = ls} f r) e =
+      refusal (sym (check_refused 1 [] (First role) (gate_line op p q) ls 5 (gate-first [] role op p q)) ∙ e)
   taken role (file.Legible.next {l = output_line x} {ls = ls} f r) e =
       refusal (sym (check_refused 1 [] (First role) (output_line x) ls 5 (output-first [] role x)) ∙ e)
   taken role (file.Legible.next {l = constraint_line x} {ls = ls} f r) e =
       refusal (sym (check_refused 1 [] (First role) (constraint_line x) ls 5 (constraint-first [] role x)) ∙ e)
-  taken role (file.Legible.next {l = header_line_lem x i g o} {ls = ls} f r) e =
-      header-cases [] role x i g o (λ c. and_then 1 c (λ next. check_from (1 + 1) [] next ls) ≡ accepted s → Taken role (header_line_lem x i g o ∷ ls))
+  taken role (file.Legible.next {l = header_line x i g o} {ls = ls} f r) e =
+      header-cases [] role x i g o (λ c. and_then 1 c (λ next. check_from (1 + 1) [] next ls) ≡ accepted s → Taken role (header_line x i g o ∷ ls))
       (λ h. refusal) (λ h k. refusal)
       (λ h l g. header-taken role x i _ o ls h l (left r 2 [] (after_header role x i _ o) (due-few role) g))
-      (sym (check_step 1 [] (First role) (header_line_lem x i g o) ls) ∙ e)
+      (sym (check_step 1 [] (First role) (header_line x i g o) ls) ∙ e)

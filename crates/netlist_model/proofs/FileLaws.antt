@@ -7,7 +7,7 @@ use Rattle.netlist_model.specs.Limits.{max_gates}
 use Rattle.netlist_model.specs.Names as names
 use Rattle.netlist_model.specs.Names.{NewNames}
 use Rattle.netlist_model.specs.Netlist as netlist
-use Rattle.netlist_model.specs.Netlist.{AllBelow, Downward, Gate, Netlist, Within, body_lines, fields_of, gate_line, line_bytes, lines_bytes, netlist_lines}
+use Rattle.netlist_model.specs.Netlist.{AllBelow, Downward, Gate, Netlist, Within, body_lines, fields_of, gate_line_of, line_bytes, lines_bytes, netlist_lines}
 use Rattle.netlist_model.specs.Records.{Line, constraint_line, fields_record, file_lines, kind_of, line_of, line_with, part_lines, malformed_line, name_line, output_line, record_of, unended}
 use Rattle.netlist_model.specs.declared.Record.TheVariants.{Malformed}
 use Rattle.netlist_model.specs.declared.Record.{Record}
@@ -93,7 +93,7 @@ file_legible bytes = parts_legible (split_at 10 bytes)
 
 -- The lines of a netlist within its limits can be held by bytes.
 gates-spelled :
-    {v : ℕ} {gs : List Gate} {ls : List Line} → Downward v gs → v + length gs ≤ 1 + max_inputs + max_gates → AllSpelled ls → AllSpelled (map gate_line gs ++ ls)
+    {v : ℕ} {gs : List Gate} {ls : List Line} → Downward v gs → v + length gs ≤ 1 + max_inputs + max_gates → AllSpelled ls → AllSpelled (map gate_line_of gs ++ ls)
 gates-spelled netlist.Downward.none h s = s
 gates-spelled (netlist.Downward.gate {g = g} p q d) h s =
     next (gate {p = g.p} {q = g.q} (omega arith) (omega arith)) (gates-spelled d (omega arith) s)

@@ -5,7 +5,7 @@ use Rattle.netlist_model.specs.code.Passing.{file_records, first_line, line_reco
 use Rattle.netlist_model.specs.Records.{Line, file_lines, kind_of, line_of, part_lines, malformed_line, name_line, record_of, unended}
 use Rattle.netlist_model.specs.declared.Record.TheVariants.{Malformed, Name}
 use Rattle.netlist_model.specs.declared.Record.{Record}
-use Rattle.text.proofs.SplitLaws.{has_shorter, has-whole, split_at_append, split_at-last, splitAt-next, split_at-some, up_to-all, up_to_shorter}
+use Rattle.text.proofs.SplitLaws.{has_shorter, has-whole, split_at_append, split_at-last, split_at-next, split_at-some, up_to-all, up_to_shorter}
 use Rattle.text.specs.Split.{has, split_at, up_to}
 use borrow.Author.Tests.{ltb-false, ltb-true}
 use lib.Dec.{ltb}
@@ -45,7 +45,7 @@ module _ (file : List ℕ) (at : ℕ) where
   unfolding file_lines
   lines_next h =
       let rest = drop (at + length (up_to 10 (drop at file)) + 1) file in
-      rw (splitAt-next 10 file at h) (lines_cons (up_to 10 (drop at file)) (split_at 10 rest) (split_at-some 10 rest))
+      rw (split_at-next 10 file at h) (lines_cons (up_to 10 (drop at file)) (split_at 10 rest) (split_at-some 10 rest))
 
   -- At the end there are none.
   pub lines_end : length file ≤ at → file_lines (drop at file) ≡ []

@@ -8,7 +8,7 @@ use Rattle.netlist_model.proofs.StepLaws.{and_then, ands-few, check_step, constr
 use Rattle.netlist_model.specs.Check.{after_name, ands_of, check_file, check_from, finish, name_given, reached, refused}
 use Rattle.netlist_model.specs.Limits.{max_gates}
 use Rattle.netlist_model.specs.code.Passing.{Counted, Held, Names, NamesThere, Passed, SeenThere, StartInside, at_first, at-later, first_line, front_names, line_due, place_after, seen_by, step_of}
-use Rattle.netlist_model.specs.Records.{Line, constraint_line, file_lines, gate_line_lem, header_line_lem, kind_of, malformed_line, name_line, output_line}
+use Rattle.netlist_model.specs.Records.{Line, constraint_line, file_lines, gate_line, header_line, kind_of, malformed_line, name_line, output_line}
 use Rattle.netlist_model.specs.declared.Body.{Body}
 use Rattle.netlist_model.specs.declared.Due.TheVariants.{First, Later}
 use Rattle.netlist_model.specs.declared.Due.{Due}
@@ -68,8 +68,8 @@ module _ (file : List ℕ) (at end : ℕ) where
   abbrev Passes : Line → Type 0
   Passes l = file_lines (drop at file) ≡ l ∷ file_lines (drop end file)
 
-  header-kept : (role : Role) (e i g o : ℕ) {next : Due} → PassedBy file at (First role) → Passes (header_line_lem e i g o)
-      → step_of [] (First role) (header_line_lem e i g o) ≡ Next next → Kept file end 1 [] next
+  header-kept : (role : Role) (e i g o : ℕ) {next : Due} → PassedBy file at (First role) → Passes (header_line e i g o)
+      → step_of [] (First role) (header_line e i g o) ≡ Next next → Kept file end 1 [] next
   unfolding line_due front_names
   header-kept role e i g o {next} p lines =
       header-cases [] role e i g o (λ s. s ≡ Next next → Kept file end 1 [] next) (λ k. refusal) (λ k l. refusal)
@@ -93,7 +93,7 @@ module _ (file : List ℕ) (at end : ℕ) where
         number = refl;
         passed =
             record {
-              first = header_line_lem e i g o;
+              first = header_line e i g o;
               formed = λ m. let z : ◌≡◌ {A = ℕ} 0 1 = cc in omega arith;
               names = [];
               others = [];
@@ -179,7 +179,7 @@ module _ (file : List ℕ) (at end : ℕ) where
           seen-names = ap (λ (ns : List (List ℕ)). ns ++ name ∷ []) (names-seen p) ∙ sym (names-seen one);
         }))
 
-    gate-kept : (op : Operation) (q r : ℕ) {next : Due} → Passes (gate_line_lem op q r) → step_of (front_names b.name file) (Later b) (gate_line_lem op q r) ≡ Next next
+    gate-kept : (op : Operation) (q r : ℕ) {next : Due} → Passes (gate_line op q r) → step_of (front_names b.name file) (Later b) (gate_line op q r) ≡ Next next
         → Kept file end number (front_names b.name file ++ []) next
     gate-kept op q r {next} lines =
         gate-cases (front_names b.name file) b op q r
@@ -214,14 +214,14 @@ module _ (file : List ℕ) (at end : ℕ) where
   unfolding line_due number
   keeps {due = First role} malformed_line at_first p lines e = refusal (sym (malformed-refused [] (First role)) ∙ e)
   keeps {due = First role} (name_line name) at_first p lines e = refusal (sym (name-first [] role name) ∙ e)
-  keeps {due = First role} (gate_line_lem op q r) at_first p lines e = refusal (sym (gate-first [] role op q r) ∙ e)
+  keeps {due = First role} (gate_line op q r) at_first p lines e = refusal (sym (gate-first [] role op q r) ∙ e)
   keeps {due = First role} (output_line r) at_first p lines e = refusal (sym (output-first [] role r) ∙ e)
   keeps {due = First role} (constraint_line r) at_first p lines e = refusal (sym (constraint-first [] role r) ∙ e)
-  keeps {due = First role} (header_line_lem e i g o) at_first p lines f = header-kept role e i g o p lines f
+  keeps {due = First role} (header_line e i g o) at_first p lines f = header-kept role e i g o p lines f
   keeps {due = Later b} malformed_line (at-later h) p lines e = refusal (sym (malformed-refused (front_names b.name file) (Later b)) ∙ e)
-  keeps {due = Later b} (header_line_lem e i g o) (at-later h) p lines f = refusal (sym (header-again (front_names b.name file) b e i g o) ∙ f)
+  keeps {due = Later b} (header_line e i g o) (at-later h) p lines f = refusal (sym (header-again (front_names b.name file) b e i g o) ∙ f)
   keeps {due = Later b} (name_line name) (at-later h) p lines e = name-kept h p name lines e
-  keeps {due = Later b} (gate_line_lem op q r) (at-later h) p lines e = gate-kept h p op q r lines e
+  keeps {due = Later b} (gate_line op q r) (at-later h) p lines e = gate-kept h p op q r lines e
   keeps {due = Later b} (output_line r) (at-later h) p lines e = output-kept h p r lines e
   keeps {due = Later b} (constraint_line r) (at-later h) p lines e = constraint-kept h p r lines e
 
@@ -289,9 +289,9 @@ module _ {role : Role} {file : List ℕ} {at line : ℕ} {due : Due} (a : Ahead 
         where
           go : (l : Line) → kind_of l ≡ Malformed → step_of (seen_by file due) due l ≡ Next next → ⊥
           go malformed_line m f = refusal (sym (malformed-refused (seen_by file due) due) ∙ f)
-          go (header_line_lem x i g o) m f = let z : ◌≡◌ {A = ℕ} 0 1 = cc in omega arith
+          go (header_line x i g o) m f = let z : ◌≡◌ {A = ℕ} 0 1 = cc in omega arith
           go (name_line x) m f = let z : ◌≡◌ {A = ℕ} 0 1 = cc in omega arith
-          go (gate_line_lem op p q) m f = let z : ◌≡◌ {A = ℕ} 0 1 = cc in omega arith
+          go (gate_line op p q) m f = let z : ◌≡◌ {A = ℕ} 0 1 = cc in omega arith
           go (output_line r) m f = let z : ◌≡◌ {A = ℕ} 0 1 = cc in omega arith
           go (constraint_line r) m f = let z : ◌≡◌ {A = ℕ} 0 1 = cc in omega arith
 

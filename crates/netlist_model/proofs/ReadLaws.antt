@@ -8,7 +8,7 @@ use Rattle.netlist_model.specs.code.Accepted.{HoldsNetlist, ReadAs, Suits, count
 use Rattle.netlist_model.specs.code.Passing.{Names, NamesThere, front_names, gates_at}
 use Rattle.netlist_model.specs.Check.{Answer, Counts, accepted, answer_of, check_file, constraints_in, gates_in, names_in, netlist_in, outputs_in, read, read_by, read_netlist, refused, summary_counts, unread}
 use Rattle.netlist_model.specs.Netlist as netlist
-use Rattle.netlist_model.specs.Netlist.{Netlist, Within, body_lines, body_records, bytes_of, gate_line, gate_record, header_line, lines_bytes, netlist_lines}
+use Rattle.netlist_model.specs.Netlist.{Netlist, Within, body_lines, body_records, bytes_of, gate_line_of, gate_record, header_line_of, lines_bytes, netlist_lines}
 use Rattle.netlist_model.specs.Records.{Line, constraint_line, file_lines, kind_of, name_line, output_line, records_in}
 use Rattle.netlist_model.specs.declared.Checked.TheVariants.{Accepted}
 use Rattle.netlist_model.specs.declared.Due.TheVariants.{First}
@@ -29,7 +29,7 @@ abbrev records : List netlist.Gate → List ℕ → List ℕ → List Record
 records gs os cs = map gate_record gs ++ (map Output os ++ map Constraint cs)
 
 abbrev lines : List netlist.Gate → List ℕ → List ℕ → List Line
-lines gs os cs = map gate_line gs ++ (map output_line os ++ map constraint_line cs)
+lines gs os cs = map gate_line_of gs ++ (map output_line os ++ map constraint_line cs)
 
 -- The gates, the outputs and the constraints among the records of a netlist.
 pub gates_in_lem : (gs : List netlist.Gate) (os cs : List ℕ) → gates_in (records gs os cs) ≡ gs
@@ -103,13 +103,13 @@ netlist_in_lem d =
       constraints_in_lem d.gates d.outputs d.constraints,
     ) refl)
 
-header-formed : (d : Netlist) → kind_of (header_line d) ≡ Malformed → ⊥
+header-formed : (d : Netlist) → kind_of (header_line_of d) ≡ Malformed → ⊥
 header-formed d e = let z : ◌≡◌ {A = ℕ} 0 1 = cc in omega arith
 
 -- The names of a file of the lines of a netlist.
 pub names-held : (d : Netlist) {bytes : List ℕ} → file_lines bytes ≡ netlist_lines d → Names bytes d.names
 unfolding netlist_lines
-names-held d e = record { first = header_line d; formed = header-formed d; rest = body_lines d; lines = e }
+names-held d e = record { first = header_line_of d; formed = header-formed d; rest = body_lines d; lines = e }
 
 -- A file of the lines of a netlist within its limits is accepted, is read as that netlist, and is its bytes.
 module _ (role : Role) {d : Netlist} (w : Within d) (suits : Suits role d) (bytes : List ℕ) (e : file_lines bytes ≡ netlist_lines d) where
@@ -150,7 +150,7 @@ pub read-other-edition : (first : ℕ) (d : Netlist) → Within d → (d.edition
 unfolding bytes_of check_file read_netlist read_by netlist_lines
 read-other-edition first d w other =
     let refusal =
-    check_refused 1 [] (First (Second first)) (header_line d) (map name_line d.names ++ body_lines d) 3
+    check_refused 1 [] (First (Second first)) (header_line_of d) (map name_line d.names ++ body_lines d) 3
     (header-edition [] (Second first) d.edition d.inputs (length d.gates) (length d.outputs)
     (λ k. other (eqb-true d.edition first k.same))) in
     rw (bytes_read (within-spelled w), refusal) refl

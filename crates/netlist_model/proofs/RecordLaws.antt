@@ -2,7 +2,7 @@
 use Prim.Native.Nat.{◌+◌, ◌<◌, ◌^◌, suc, zero, ℕ}
 use Rattle.netlist_model.specs.Limits.{max_name}
 use Rattle.netlist_model.specs.Netlist.{fields_of}
-use Rattle.netlist_model.specs.Records.{Line, constraint_line, constraint_in, constraint_of, fields_record, gate_line_lem, gate_in, gate_of, header_line_lem, header_in, header_of, kind_of, laid_out, letter_or_digit?, letters_or_digits?, line_with, name_line, name?, name_in, operation_bytes, operation_of, output_line, output_in, output_of}
+use Rattle.netlist_model.specs.Records.{Line, constraint_line, constraint_in, constraint_of, fields_record, gate_line, gate_in, gate_of, header_line, header_in, header_of, kind_of, laid_out, letter_or_digit?, letters_or_digits?, line_with, name_line, name?, name_in, operation_bytes, operation_of, output_line, output_in, output_of}
 use Rattle.netlist_model.specs.declared.Operation.TheVariants.{And, Or, Xor}
 use Rattle.netlist_model.specs.declared.Operation.{Operation}
 use Rattle.netlist_model.specs.declared.OperationField.TheVariants.{Named, Unknown}
@@ -29,9 +29,9 @@ use native.Mathlib.Omega.{arith}
 
 -- A line that bytes can hold: it is well formed, its numbers have numerals, and its name is one.
 pub data Spelled : Line → Type 0 where
-  header : {e i g o : ℕ} → e < 10 ^ MAX_DIGITS → i < 10 ^ MAX_DIGITS → g < 10 ^ MAX_DIGITS → o < 10 ^ MAX_DIGITS → Spelled (header_line_lem e i g o)
+  header : {e i g o : ℕ} → e < 10 ^ MAX_DIGITS → i < 10 ^ MAX_DIGITS → g < 10 ^ MAX_DIGITS → o < 10 ^ MAX_DIGITS → Spelled (header_line e i g o)
   named : {s : List ℕ} → name? s ≡ true → Spelled (name_line s)
-  gate : {op : Operation} {p q : ℕ} → p < 10 ^ MAX_DIGITS → q < 10 ^ MAX_DIGITS → Spelled (gate_line_lem op p q)
+  gate : {op : Operation} {p q : ℕ} → p < 10 ^ MAX_DIGITS → q < 10 ^ MAX_DIGITS → Spelled (gate_line op p q)
   output : {r : ℕ} → r < 10 ^ MAX_DIGITS → Spelled (output_line r)
   constraint : {r : ℕ} → r < 10 ^ MAX_DIGITS → Spelled (constraint_line r)
 

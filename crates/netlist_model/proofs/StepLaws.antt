@@ -4,7 +4,7 @@ use Rattle.netlist_model.proofs.NameLaws.{among-place, place-among}
 use Rattle.netlist_model.specs.Check.{Answer, accepted, after_constraint, after_gate, after_header, after_name, after_output, ands_of, below?, check_from, counts_of, due?, due_after, finish, formed?, header?, known?, limited?, line_tests, more?, name_given, refused, suits?, twice?}
 use Rattle.netlist_model.specs.Limits.{by_name_edition, by_place_edition, max_gates}
 use Rattle.netlist_model.specs.Names.{Among, among?, place_of}
-use Rattle.netlist_model.specs.Records.{Line, constraint_line, gate_line_lem, header_line_lem, kind_of, line_with, malformed_line, name_line, output_line}
+use Rattle.netlist_model.specs.Records.{Line, constraint_line, gate_line, header_line, kind_of, line_with, malformed_line, name_line, output_line}
 use Rattle.netlist_model.specs.code.Passing.{step_of}
 use Rattle.netlist_model.specs.declared.Body.{Body}
 use Rattle.netlist_model.specs.declared.Due.TheVariants.{First, Later}
@@ -68,7 +68,7 @@ module _ (seen : List (List ℕ)) where
   unfolding step_of first_refusal formed? header? known? limited?
   name-first role name = refl
 
-  pub gate-first : (role : Role) (op : Operation) (p q : ℕ) → step_of seen (First role) (gate_line_lem op p q) ≡ Refuse 5
+  pub gate-first : (role : Role) (op : Operation) (p q : ℕ) → step_of seen (First role) (gate_line op p q) ≡ Refuse 5
   unfolding step_of first_refusal formed? header? known? limited?
   gate-first role op p q = refl
 
@@ -81,22 +81,22 @@ module _ (seen : List (List ℕ)) where
   constraint-first role r = refl
 
   -- Line 1 again.
-  pub header-again : (b : Body) (e i g o : ℕ) → step_of seen (Later b) (header_line_lem e i g o) ≡ Refuse 5
+  pub header-again : (b : Body) (e i g o : ℕ) → step_of seen (Later b) (header_line e i g o) ≡ Refuse 5
   unfolding step_of first_refusal formed? due? below? twice?
   header-again b e i g o = refl
 
 -- In line 1, and in the lines of gates, outputs and constraints, the names in earlier lines decide nothing.
 pub first_unseen : (role : Role) (l : Line) → step_of [] (First role) l ≡ step_of [] (First role) (line_with (kind_of l) [])
 unfolding step_of first_refusal formed? header? known? limited? due_after
-first_unseen role (header_line_lem e i g o) = refl
+first_unseen role (header_line e i g o) = refl
 first_unseen role (name_line name) = refl
-first_unseen role (gate_line_lem op p q) = refl
+first_unseen role (gate_line op p q) = refl
 first_unseen role (output_line r) = refl
 first_unseen role (constraint_line r) = refl
 first_unseen role malformed_line = refl
 
 module _ (seen : List (List ℕ)) (b : Body) where
-  pub gate_unseen : (op : Operation) (p q : ℕ) → step_of seen (Later b) (gate_line_lem op p q) ≡ step_of [] (Later b) (gate_line_lem op p q)
+  pub gate_unseen : (op : Operation) (p q : ℕ) → step_of seen (Later b) (gate_line op p q) ≡ step_of [] (Later b) (gate_line op p q)
   unfolding step_of first_refusal formed? due? below? twice? due_after
   gate_unseen op p q = refl
 
@@ -119,9 +119,9 @@ NoName Malformed = Unit
 
 -- A line that is no name's is told by its record.
 pub line_told : (l : Line) {r : Record} → kind_of l ≡ r → NoName r → l ≡ line_with r []
-line_told (header_line_lem e i g o) {r} h k = ap (λ (x : Record). line_with x []) h
+line_told (header_line e i g o) {r} h k = ap (λ (x : Record). line_with x []) h
 line_told (name_line name) {r} h k = absurd (rw (← h) at k)
-line_told (gate_line_lem op p q) {r} h k = ap (λ (x : Record). line_with x []) h
+line_told (gate_line op p q) {r} h k = ap (λ (x : Record). line_with x []) h
 line_told (output_line x) {r} h k = ap (λ (x : Record). line_with x []) h
 line_told (constraint_line x) {r} h k = ap (λ (x : Record). line_with x []) h
 line_told malformed_line {r} h k = ap (λ (x : Record). line_with x []) h
@@ -163,7 +163,7 @@ module _ (seen : List (List ℕ)) (role : Role) (e i g o : ℕ) where
       → ((Known role e → ⊥) → P (Refuse 3))
       → (Known role e → (Limited i g o → ⊥) → P (Refuse 4))
       → (Known role e → Limited i g o → P (Next (Later (after_header role e i g o))))
-      → P (step_of seen (First role) (header_line_lem e i g o))
+      → P (step_of seen (First role) (header_line e i g o))
   unfolding step_of first_refusal formed? header? known? limited? due_after
   header-cases P other beyond next = go ((eqb e by_place_edition || eqb e by_name_edition) && suits? role e) (a && b && c && d) refl refl
     where
@@ -198,15 +198,15 @@ module _ (seen : List (List ℕ)) (role : Role) (e i g o : ℕ) where
           })
 
   -- Another edition.
-  pub header-edition : (Known role e → ⊥) → step_of seen (First role) (header_line_lem e i g o) ≡ Refuse 3
+  pub header-edition : (Known role e → ⊥) → step_of seen (First role) (header_line e i g o) ≡ Refuse 3
   header-edition h = header-cases (λ s. s ≡ Refuse 3) (λ k. refl) (λ k l. absurd (h k)) (λ k l. absurd (h k))
 
   -- A count beyond its limit.
-  pub header-beyond : Known role e → (Limited i g o → ⊥) → step_of seen (First role) (header_line_lem e i g o) ≡ Refuse 4
+  pub header-beyond : Known role e → (Limited i g o → ⊥) → step_of seen (First role) (header_line e i g o) ≡ Refuse 4
   header-beyond h k = header-cases (λ s. s ≡ Refuse 4) (λ l. absurd (l h)) (λ l m. refl) (λ l m. absurd (k m))
 
   -- A good line 1.
-  pub header-next : Known role e → Limited i g o → step_of seen (First role) (header_line_lem e i g o) ≡ Next (Later (after_header role e i g o))
+  pub header-next : Known role e → Limited i g o → step_of seen (First role) (header_line e i g o) ≡ Next (Later (after_header role e i g o))
   header-next h k = header-cases (λ s. s ≡ Next (Later (after_header role e i g o))) (λ l. absurd (l h)) (λ l m. absurd (m k)) (λ l m. refl)
 
 module _ (seen : List (List ℕ)) (b : Body) (name : List ℕ) where
@@ -261,7 +261,7 @@ module _ (seen : List (List ℕ)) (b : Body) (op : Operation) (p q : ℕ) where
       → ((GateDue b → ⊥) → P (Refuse 5))
       → (GateDue b → (GateFits b p q → ⊥) → P (Refuse 6))
       → (GateDue b → GateFits b p q → P (Next (Later (after_gate op b))))
-      → P (step_of seen (Later b) (gate_line_lem op p q))
+      → P (step_of seen (Later b) (gate_line op p q))
   unfolding step_of first_refusal formed? due? below? twice? due_after
   gate-cases P extra beyond next = go (named && more) (ltb p n && ltb q n) refl refl
     where
@@ -285,15 +285,15 @@ module _ (seen : List (List ℕ)) (b : Body) (op : Operation) (p q : ℕ) where
           next (due h) (record { left = ltb-true p n (and_left (ltb p n) (ltb q n) k); right = ltb-true q n (and_right (ltb p n) (ltb q n) k) })
 
   -- A gate where none is due.
-  pub gate_extra : (GateDue b → ⊥) → step_of seen (Later b) (gate_line_lem op p q) ≡ Refuse 5
+  pub gate_extra : (GateDue b → ⊥) → step_of seen (Later b) (gate_line op p q) ≡ Refuse 5
   gate_extra h = gate-cases (λ s. s ≡ Refuse 5) (λ k. refl) (λ k l. absurd (h k)) (λ k l. absurd (h k))
 
   -- A reference that is not below its gate.
-  pub gate-beyond : GateDue b → (GateFits b p q → ⊥) → step_of seen (Later b) (gate_line_lem op p q) ≡ Refuse 6
+  pub gate-beyond : GateDue b → (GateFits b p q → ⊥) → step_of seen (Later b) (gate_line op p q) ≡ Refuse 6
   gate-beyond h k = gate-cases (λ s. s ≡ Refuse 6) (λ l. absurd (l h)) (λ l m. refl) (λ l m. absurd (k m))
 
   -- A good gate.
-  pub gate-next : GateDue b → GateFits b p q → step_of seen (Later b) (gate_line_lem op p q) ≡ Next (Later (after_gate op b))
+  pub gate-next : GateDue b → GateFits b p q → step_of seen (Later b) (gate_line op p q) ≡ Next (Later (after_gate op b))
   gate-next h k = gate-cases (λ s. s ≡ Next (Later (after_gate op b))) (λ l. absurd (l h)) (λ l m. absurd (m k)) (λ l m. refl)
 
 -- What a line with one reference comes to: 5 where it is not due, 6 where the reference is not below a bound, else what is due next.

@@ -4,7 +4,7 @@ use Rattle.netlist_model.specs.Limits.{by_name_edition, by_place_edition, max_ga
 use Rattle.netlist_model.specs.Names.{among?, name_count}
 use Rattle.netlist_model.specs.Netlist as netlist
 use Rattle.netlist_model.specs.Netlist.{Netlist}
-use Rattle.netlist_model.specs.Records.{Line, constraint_line, file_lines, gate_line_lem, header_line_lem, kind_of, malformed_line, name_line, output_line, records_in}
+use Rattle.netlist_model.specs.Records.{Line, constraint_line, file_lines, gate_line, header_line, kind_of, malformed_line, name_line, output_line, records_in}
 use Rattle.netlist_model.specs.declared.Body.{Body}
 use Rattle.netlist_model.specs.declared.Checked.TheVariants.{Accepted, Refused}
 use Rattle.netlist_model.specs.declared.Checked.{Checked}
@@ -101,8 +101,8 @@ below? b Malformed = false
 -- "18 a name twice in a file": whether the name that a line gives stands in an earlier line. (RULES 8.1)
 unfoldable pub twice? : List (List ℕ) → Line → Bool
 twice? seen (name_line name) = among? name seen
-twice? seen (header_line_lem e i g o) = false
-twice? seen (gate_line_lem op p q) = false
+twice? seen (header_line e i g o) = false
+twice? seen (gate_line op p q) = false
 twice? seen (output_line r) = false
 twice? seen (constraint_line r) = false
 twice? seen malformed_line = false
@@ -202,8 +202,8 @@ due_after (Later b) Malformed = Later b
 -- The names that a line gives: one, or none.
 abbrev pub name_given : Line → List (List ℕ)
 name_given (name_line name) = name ∷ []
-name_given (header_line_lem e i g o) = []
-name_given (gate_line_lem op p q) = []
+name_given (header_line e i g o) = []
+name_given (gate_line op p q) = []
 name_given (output_line r) = []
 name_given (constraint_line r) = []
 name_given malformed_line = []

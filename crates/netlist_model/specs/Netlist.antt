@@ -1,7 +1,7 @@
 -- A netlist, and the bytes of its file.
 use Rattle.std.specs.Prelude.{◌*◌, ◌+◌, ◌<◌, ◌≤◌, suc, ℕ, get_or, length, List, [], ◌++◌, ◌∷◌, map, ◌⊎◌, ◌≡◌}
 use Rattle.netlist_model.specs.Names.{NewNames}
-use Rattle.netlist_model.specs.Records.{Line, constraint_line, gate_line_lem, header_line_lem, malformed_line, name_line, operation_bytes, output_line}
+use Rattle.netlist_model.specs.Records.{Line, constraint_line, gate_line, header_line, malformed_line, name_line, operation_bytes, output_line}
 use Rattle.netlist_model.specs.declared.Operation.{Operation}
 use Rattle.netlist_model.specs.declared.Record.TheVariants as kinds
 use Rattle.netlist_model.specs.declared.Record.TheVariants.{Constraint, Output}
@@ -65,27 +65,27 @@ unfoldable pub body_records : Netlist → List Record
 body_records d = map gate_record d.gates ++ (map Output d.outputs ++ map Constraint d.constraints)
 
 -- "Line 1: `N⇥edition⇥inputs⇥gates⇥outputs`." (RULES 1.3)
-abbrev pub header_line : Netlist → Line
-header_line d = header_line_lem d.edition d.inputs (length d.gates) (length d.outputs)
+abbrev pub header_line_of : Netlist → Line
+header_line_of d = header_line d.edition d.inputs (length d.gates) (length d.outputs)
 
 -- "Then one line a gate: `G⇥op⇥p⇥q`" (RULES 1.4)
-abbrev pub gate_line : Gate → Line
-gate_line g = gate_line_lem g.op g.p g.q
+abbrev pub gate_line_of : Gate → Line
+gate_line_of g = gate_line g.op g.p g.q
 
 -- "Then one line a gate .. Then one line an output .., outputs numbered from 0.", "may end with one line `C⇥r`" (RULES 1.4, 1.5, 1.13)
 unfoldable pub body_lines : Netlist → List Line
-body_lines d = map gate_line d.gates ++ (map output_line d.outputs ++ map constraint_line d.constraints)
+body_lines d = map gate_line_of d.gates ++ (map output_line d.outputs ++ map constraint_line d.constraints)
 
 -- "after line 1, a line `I⇥name` for each input": the lines of a netlist's file. (RULES 1.12)
 unfoldable pub netlist_lines : Netlist → List Line
-netlist_lines d = header_line d ∷ (map name_line d.names ++ body_lines d)
+netlist_lines d = header_line_of d ∷ (map name_line d.names ++ body_lines d)
 
 -- "`N⇥edition⇥inputs⇥gates⇥outputs`", "`I⇥name`", "`G⇥op⇥p⇥q`", "`O⇥r`", "`C⇥r`": the fields of a line. A malformed one has none.
 -- (RULES 1.3, 1.4, 1.5, 1.12, 1.13)
 unfoldable pub fields_of : Line → List (List ℕ)
-fields_of (header_line_lem e i g o) = (78 ∷ []) ∷ decimal e ∷ decimal i ∷ decimal g ∷ decimal o ∷ []
+fields_of (header_line e i g o) = (78 ∷ []) ∷ decimal e ∷ decimal i ∷ decimal g ∷ decimal o ∷ []
 fields_of (name_line name) = (73 ∷ []) ∷ name ∷ []
-fields_of (gate_line_lem op p q) = (71 ∷ []) ∷ operation_bytes op ∷ decimal p ∷ decimal q ∷ []
+fields_of (gate_line op p q) = (71 ∷ []) ∷ operation_bytes op ∷ decimal p ∷ decimal q ∷ []
 fields_of (output_line r) = (79 ∷ []) ∷ decimal r ∷ []
 fields_of (constraint_line r) = (67 ∷ []) ∷ decimal r ∷ []
 fields_of malformed_line = []

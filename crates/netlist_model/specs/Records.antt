@@ -102,27 +102,27 @@ record_of line = fields_record (split_at 9 line)
 
 -- A line: its record, and in an I record its name too.
 pub data Line : Type 0 where
-  header_line_lem : ℕ → ℕ → ℕ → ℕ → Line
+  header_line : ℕ → ℕ → ℕ → ℕ → Line
   name_line : List ℕ → Line
-  gate_line_lem : Operation → ℕ → ℕ → Line
+  gate_line : Operation → ℕ → ℕ → Line
   output_line : ℕ → Line
   constraint_line : ℕ → Line
   malformed_line : Line
 
 -- Its record.
 abbrev pub kind_of : Line → Record
-kind_of (header_line_lem e i g o) = Header e i g o
+kind_of (header_line e i g o) = Header e i g o
 kind_of (name_line name) = Name
-kind_of (gate_line_lem op p q) = Gate op p q
+kind_of (gate_line op p q) = Gate op p q
 kind_of (output_line r) = Output r
 kind_of (constraint_line r) = Constraint r
 kind_of malformed_line = Malformed
 
 -- The line with a record and its fields.
 abbrev pub line_with : Record → List (List ℕ) → Line
-line_with (Header e i g o) fs = header_line_lem e i g o
+line_with (Header e i g o) fs = header_line e i g o
 line_with Name fs = name_line (get_or fs 1 [])
-line_with (Gate op p q) fs = gate_line_lem op p q
+line_with (Gate op p q) fs = gate_line op p q
 line_with (Output r) fs = output_line r
 line_with (Constraint r) fs = constraint_line r
 line_with Malformed fs = malformed_line

@@ -9,7 +9,7 @@ use mathlib.Core.Path.{refl}
 
 pub product_of_two : ProductOfTwo
 unfolding add_part add_row ◌and_then◌ count_step plain run among alike? depends? terminal? conj constant? constantly disj input invert same? value_at
-product_of_two = record { and_done = refl; and_rows = refl; and_steps_lem = refl }
+product_of_two = record { and_done = refl; and_rows = refl; and_steps = refl }
 
 pub zero_before-one : ZeroBeforeOne
 unfolding add_part add_row ◌and_then◌ count_step plain run among alike? depends? terminal? conj constant? constantly disj input invert same? value_at

@@ -20,7 +20,7 @@ inputs_only = record { store = rows_of_inputs; steps = 0 }
 pub record ProductOfTwo : Type 0 where
   pub and_done : run 3 3 a b inputs_only ≡ done (record { store = conj a b ∷ rows_of_inputs; steps = 3 })
   pub and_rows : run 2 3 a b inputs_only ≡ short_of_rows (record { store = rows_of_inputs; steps = 3 })
-  pub and_steps_lem : run 3 2 a b inputs_only ≡ short_of_steps (record { store = rows_of_inputs; steps = 2 })
+  pub and_steps : run 3 2 a b inputs_only ≡ short_of_steps (record { store = rows_of_inputs; steps = 2 })
 
 -- Functions of three inputs: the second input, and the exclusive or of the first and the third.
 abbrev pub second : Truth

@@ -8,11 +8,11 @@ use mathlib.Core.List.{[], ◌∷◌}
 use mathlib.Core.Path.{◌≡◌, refl}
 
 -- "`1⇥0⇥different⇥01⇥-⇥4⇥6`"
-and_or_lem :
+and_or_card :
     reply_line 1 0 Different (48 ∷ 49 ∷ []) None 4 6
     ≡ 49 ∷ 9 ∷ 48 ∷ 9 ∷ 100 ∷ 105 ∷ 102 ∷ 102 ∷ 101 ∷ 114 ∷ 101 ∷ 110 ∷ 116 ∷ 9 ∷ 48 ∷ 49 ∷ 9 ∷ 45 ∷ 9 ∷ 52 ∷ 9 ∷ 54 ∷ 10 ∷ []
 unfolding reply_line decimal digits_within
-and_or_lem = refl
+and_or_card = refl
 
 -- "no inputs, 0 against 1: Different, empty setting": `1⇥0⇥different⇥-⇥-⇥0⇥0`.
 no_inputs :

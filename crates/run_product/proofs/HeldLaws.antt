@@ -1,4 +1,4 @@
--- References where there is none yet, of literals, and followed.
+-- References: where there is none yet, of a literal, and followed down.
 use Prim.Native.Nat.{◌%◌, ◌-◌, ◌/◌, ◌≤◌, suc, zero, ℕ}
 use Rattle.bdd.proofs.DiagramLaws.{cofactor-below, constant-reference}
 use Rattle.bdd.proofs.ReferenceLaws.{edge_row}

@@ -17,7 +17,7 @@ pub sweep_cards : SweepCards
 unfolding fold_of first_vertex own_words ◌and_then◌ add_part add_row count_step run first_functions made_functions folded_row found_row normalise normalise_from normalise_row resolve take_at takes_from wake wake_at bare? dropped? gone? has? open? waits? and_then result_of begin conclude drop_vertex give_row go go_for give_inputs look look_at meet multiply open_at pick_from ready? scan_from smaller start sweep swept top_part turns_left turns_of twin_from visit among distinct filter alike? cofactors depends? parts plain size first_difference terminal? conj constant? constantly input invert same? value_at
 sweep_cards =
     record {
-      and_or_lem = refl;
+      and_or_card = refl;
       and_or-rows = refl;
       and_or-steps = refl;
       and_or_six = refl;
@@ -29,7 +29,7 @@ sweep_cards =
       broken-steps = refl;
       zero_rows = refl;
       zero_steps = refl;
-      xor_pair_lem = refl;
+      xor_pair_card = refl;
       xor_first = refl;
       xor_second = refl;
       and_twice = refl;

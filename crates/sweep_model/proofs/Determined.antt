@@ -25,7 +25,7 @@ module _ {p : Problem} {operands marks : List ℕ} {v rows steps added steps' ad
       kind x.after y.after
       (subst₂ SameOutcome x.ran y.ran
       (run-same p.limits.rows p.limits.steps (literal_function p (first_word operands v)) (literal_function p (second_word operands v)) before)) in
-      (sym x.steps-after ∙ after.steps ∙ y.steps-after, omega (arith, x.rows_after_lem, y.rows_after_lem, after.count))
+      (sym x.steps-after ∙ after.steps ∙ y.steps-after, omega (arith, x.rows_after, y.rows_after, after.count))
 
   -- So do two accounts of a row limit that was passed.
   broke-at-agree : BrokeAt p operands marks v rows steps added → BrokeAt p operands marks v rows steps' added' → (steps ≡ steps') × (added ≡ added')

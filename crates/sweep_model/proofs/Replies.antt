@@ -226,7 +226,7 @@ module _ {p : Problem} {entry : List ℕ} (fit : Fit p entry) where
               ∙ ap (λ (xs : List And). sum (map and_steps xs))
               (sym (ands-stay p entry (is_either 1 2) s.marks r.steady.marked v 3 due.made (ap (is_either 1 2) (due-unmarked fit due r)) refl));
           ran = sym (pair_runs p.limits.rows p.limits.steps s.book (operands-kept fit due.steady v due.made (due-within due) (due-unmerged fit due))) ∙ e;
-          rows_after_lem = omega (arith, grown_length G);
+          rows_after = omega (arith, grown_length G);
           steps-after = refl;
         }
 

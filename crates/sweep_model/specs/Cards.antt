@@ -75,7 +75,7 @@ usual = limits 4096 4096 4096
 pub record SweepCards : Type 0 where
   -- "row limit 3 gives Rows at vertex 4, rows 3; step limit 5 gives Steps at vertex 4, steps 5, and 6 gives Different; size limit 1
   -- gives Size, rows 2, steps 6." (RULES 13.3)
-  pub and_or_lem : told (and_or usual) ≡ says (different (false ∷ true ∷ [])) 4 6 0
+  pub and_or_card : told (and_or usual) ≡ says (different (false ∷ true ∷ [])) 4 6 0
   pub and_or-rows : told (and_or (limits 4096 3 4096)) ≡ says (undecided (Rows 4)) 3 6 0
   pub and_or-steps : told (and_or (limits 4096 4096 5)) ≡ says (undecided (Steps 4)) 3 5 0
   pub and_or_six : told (and_or (limits 4096 4096 6)) ≡ says (different (false ∷ true ∷ [])) 4 6 0
@@ -91,7 +91,7 @@ pub record SweepCards : Type 0 where
   pub zero_rows : told (zero_first (limits 4096 7 4096)) ≡ says (undecided (Rows 8)) 7 17 0
   pub zero_steps : told (zero_first (limits 4096 4096 16)) ≡ says (undecided (Steps 8)) 7 16 0
   -- "Equal, rows 7, steps 18; vertex 8's row becomes (11, 11)." (RULES 13.3)
-  pub xor_pair_lem : told (xor_pair usual) ≡ says equal 7 18 0
+  pub xor_pair_card : told (xor_pair usual) ≡ says equal 7 18 0
   pub xor_first : first_word (xor_pair usual).left.rows 8 ≡ 11
   pub xor_second : second_word (xor_pair usual).left.rows 8 ≡ 11
   -- "`and 2 4` output 6 against `or 3 5` output 7: .. Equal, rows 0, steps 0." (RULES 13.2)

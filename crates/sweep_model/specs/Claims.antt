@@ -80,7 +80,7 @@ pub record BrokeOff (p : Problem) (operands marks : List ℕ) (short : Book → 
   pub rows_before : length before.store ≡ rows
   pub steps-before : before.steps ≡ steps_marked p operands marks
   pub ran : product_by p operands v before ≡ short after
-  pub rows_after_lem : length after.store ≡ rows + added
+  pub rows_after : length after.store ≡ rows + added
   pub steps-after : after.steps ≡ steps
 
 -- "after Rows the steps are the sum over the ANDs marked 1 or 2 plus the broken product's", "the rows added, 0 where none broke": at an AND

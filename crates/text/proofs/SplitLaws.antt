@@ -65,11 +65,11 @@ split_at-more k (b ∷ bs) h = go (eqb b k) (split_at-more k bs) h
     go false f e = rw (f e, add-one (length (up_to k bs)), add-one (suc (length (up_to k bs)))) refl
 
 -- The parts of what starts at `at`: a part that ends inside is followed by those of what starts after its separator.
-pub splitAt-next :
+pub split_at-next :
     (k : ℕ) (s : List ℕ) (at : ℕ)
     → at + length (up_to k (drop at s)) < length s
     → split_at k (drop at s) ≡ up_to k (drop at s) ∷ split_at k (drop (at + length (up_to k (drop at s)) + 1) s)
-splitAt-next k s at h =
+split_at-next k s at h =
     let n = length (up_to k (drop at s)) in
     let e : at + (n + 1) ≡ at + n + 1 = omega arith in
     let l : n < length (drop at s) = rw length-drop (omega arith) in

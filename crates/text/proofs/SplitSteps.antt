@@ -1,6 +1,6 @@
 -- What a turn of the loops that cut bytes into parts shows.
 use Prim.Native.Nat.{◌+◌, ◌-◌, ◌<◌, ◌≤◌, suc, ℕ}
-use Rattle.text.proofs.SplitLaws.{split_at-first, split_at-last, splitAt-next, split_at-some, up_to_shorter}
+use Rattle.text.proofs.SplitLaws.{split_at-first, split_at-last, split_at-next, split_at-some, up_to_shorter}
 use Rattle.text.specs.Split.{has, on_first, split_at, up_to}
 use borrow.Author.Tests.{eq-eqb, ne_eqb}
 use lib.ListN.{drop, drop_of_length-le, get_or, length, length-drop, take}
@@ -71,4 +71,4 @@ module _ (k : ℕ) (s : List ℕ) (at i : ℕ) (parts : drop i (split_at k s) �
 
   -- And the others start after that.
   pub part_next : i + 1 < length (split_at k s) → drop (i + 1) (split_at k s) ≡ split_at k (drop (at + length (up_to k (drop at s)) + 1) s)
-  part_next more = sym (drop-drop 1 i (split_at k s)) ∙ ap (λ (l : List (List ℕ)). drop 1 l) (parts ∙ splitAt-next k s at (part_ends more))
+  part_next more = sym (drop-drop 1 i (split_at k s)) ∙ ap (λ (l : List (List ℕ)). drop 1 l) (parts ∙ split_at-next k s at (part_ends more))

@@ -13,9 +13,5 @@ bounds-to-at c = omega (arith, c.loop-i.invariant.1.same)
 pub loop-i-preserved : goal.loop-i-preserved
 loop-i-preserved c = (search rules, copy_turn c.loop-i.invariant.1 c.loop-i-test.true (omega (arith, c.loop-i.invariant.1.same)))
 
--- SETTLED? Need-same-length
--- same_length : tie.Need-same-length invariant_loop decreases_loop
--- same_length c = c.before.loop.invariant.1.same
-
 pub returns : goal.returns
 returns c = record { place = refl; list = copy_ends c.loop-i.invariant.1 c.loop-i-test.false }

@@ -16,9 +16,5 @@ bounds-pairs-at-in-loop-v c = rw length-set (omega (arith, c.loop-v.invariant.1.
 pub loop-v-preserved : goal.loop-v-preserved
 loop-v-preserved c = (search rules, own_turn c.loop-v.invariant.1 c.loop-v-test.true (omega (arith, c.loop-v.invariant.1.same)))
 
--- SETTLED? Need-same-length
--- same_length : tie.Need-same-length invariant_loop decreases_loop
--- same_length c = c.before.loop.invariant.1.same
-
 pub returns : goal.returns
 returns c = own-ends c.loop-v.invariant.1 c.loop-v-test.false

@@ -32,10 +32,6 @@ loop-level-preserved c =
     writing-on a.rows.now a.used a.inputs a.f a.g a.setting.now at.setting at.level at.a at.b
     c.requires.store.canonical c.requires.long at.invariant (omega (arith, c.loop-level-test.true)) c.choose-c.result c.choose-c.ensures
 
--- SETTLED? Need-same-length
--- same_length : tie.Need-same-length invariant_loop decreases_loop
--- same_length c = c.before.loop.invariant.long
-
 pub returns : goal.returns
 returns c =
     let a = c.args in

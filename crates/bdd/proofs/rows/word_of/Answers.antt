@@ -9,12 +9,8 @@ use Rattle.bdd.proofs.rows.word_of.Goals as goal
 pub returns-then-i-eq0 : goal.returns-then-i-eq0
 returns-then-i-eq0 c = (sym (word_none c.args.rows.now c.args.k c.args.i c.if-i-eq0.true), omega arith)
 
--- SETTLED? Need-overflow-cast-result
--- cast-result : tie.Need-overflow-cast-result
--- cast-result c = omega (arith, c.shared-slice-known.given ((c.before.before.args.i - 1) * 4 + c.before.before.args.k))
-
 pub returns : goal.returns
 returns c =
     let a = c.args in
     let pos : 1 ≤ a.i = omega (arith, c.if-i-eq0.false) in
-    (sym (word_at_lem a.rows.now a.k a.i pos), (c.shared_slice_known-1.given ((a.i - 1) * 4 + a.k)).fits)
+    (sym (word_at_lem a.rows.now a.k a.i pos), (c.type_inv.rows ((a.i - 1) * 4 + a.k)).fits)
