@@ -1,0 +1,10 @@
+-- The loop's invariant: `i` has not passed 16.
+-- The measure is what is left.
+use Rattle.std.proofs.Common.{◌-◌, ◌≤◌}
+use Rattle.run_drawn.proofs.order.begin.Given as goal
+
+abbrev pub invariant-loop-i : goal.invariant-loop-i
+invariant-loop-i l = l.i ≤ 16
+
+abbrev pub decreases-loop-i : goal.decreases-loop-i
+decreases-loop-i l = 16 - l.i

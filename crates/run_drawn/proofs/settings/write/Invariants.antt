@@ -1,0 +1,10 @@
+-- The loop's invariant: `i` has not passed inputs.
+-- The measure is what is left.
+use Rattle.std.proofs.Common.{◌-◌, ◌≤◌}
+use Rattle.run_drawn.proofs.settings.write.Given as goal
+
+abbrev pub invariant-loop-i : goal.invariant-loop-i
+invariant-loop-i l = l.i ≤ l.inputs
+
+abbrev pub decreases-loop-i : goal.decreases-loop-i
+decreases-loop-i l = l.inputs - l.i
