@@ -139,6 +139,7 @@ fn add_row(pairs: &mut [u32], look: &mut [u32], v: u32, p: u32, q: u32)
 }
 
 // Asks for the ANDs that a gate stands for.
+#[tactic(auto, unfolding(load_model::specs::Build::ask_gate))]
 pub fn ask_gate(
     pairs: &mut [u32],
     look: &mut [u32],

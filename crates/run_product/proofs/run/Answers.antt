@@ -1,4 +1,4 @@
--- The store is held through the rows of the inputs and the products, and is empty again once the rows are given back.
+-- At first no reference is held.
 use Rattle.run_product.proofs.HeldLaws.{held_none}
 use Rattle.run_product.proofs.run.Goals as goal
 

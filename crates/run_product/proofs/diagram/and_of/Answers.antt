@@ -1,4 +1,4 @@
--- A product that is done gives a new reference; one that is short has the rows it added given back.
+-- The product can be asked: the rows hold both references.
 use Rattle.std.proofs.Common.{arith}
 use Rattle.run_product.proofs.HeldLaws.{edge-held}
 use Rattle.run_product.proofs.diagram.and_of.Goals as goal
