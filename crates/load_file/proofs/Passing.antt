@@ -25,6 +25,7 @@ use Rattle.words.proofs.Writing.{Writing, writing_begins, writing-ends, writing-
 use lib.ListN.{drop, length, set, take}
 use lib.Seq.{get_or-take, take-suc-set}
 use mathlib.Core.List.{List, [], ◌++◌, ◌∷◌, map}
+use mathlib.Core.Logic.{◌⊎◌, ⊎_elim}
 use mathlib.Core.Path.{◌∙◌, ◌≡◌, ap, refl}
 use native.Mathlib.Numerals.{add-one}
 use native.Mathlib.Omega.{arith}
@@ -32,6 +33,11 @@ use native.Mathlib.Omega.{arith}
 -- A reference to one of the first n vertices needs only their literals.
 pub literal-front : (literals : List ℕ) (n r : ℕ) → r < 2 * n → literal_for (take n literals) r ≡ literal_for literals r
 literal-front literals n r h = rw (get_or-take n literals (vertex_of r) 0 (omega arith)) refl
+
+-- A kind of record is none of five others.
+pub none_of : {kind a b c d e : ℕ} → (kind ≡ a) ⊎ ((kind ≡ b) ⊎ ((kind ≡ c) ⊎ ((kind ≡ d) ⊎ (kind ≡ e))))
+    → (kind ≡ a → ⊥) → (kind ≡ b → ⊥) → (kind ≡ c → ⊥) → (kind ≡ d → ⊥) → (kind ≡ e → ⊥) → ⊥
+none_of k f g h i j = ⊎_elim f (λ l. ⊎_elim g (λ m. ⊎_elim h (λ n. ⊎_elim i j n) m) l) k
 
 -- What the gate of a line keeps.
 pub record Due (v asked : ℕ) (op : Operation) (p q : ℕ) : Type 0 where
