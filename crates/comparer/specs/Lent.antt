@@ -4,7 +4,7 @@ use Rattle.compare_model.specs.Compare.{CompareRoom, Given, Left, compared, limi
 use Rattle.compare_model.specs.Said.{Said, said_of}
 use Rattle.compare_model.specs.declared.Limits.{Limits as Asked}
 use Rattle.sweep_model.specs.declared.Reply.{Reply}
-use Rattle.std.specs.Borrow.{Bor, MutBor}
+use Rattle.std.specs.Borrow.{MutBor}
 use denote.Triple.Both.{Both}
 
 -- A lent slice, at entry and at exit.
@@ -35,29 +35,21 @@ holding table pairs look diagrams stages rows marks setting =
       setting = setting;
     }
 
--- What they hold at entry and at exit.
-abbrev pub slices : Slice → Slice → Slice → Slice → Slice → Slice → Slice → Slice → Both Slices Slices
-slices table pairs look diagrams stages rows marks setting =
+-- What they hold at entry and at exit, the table given by what it holds at the two.
+abbrev pub slices_with : List ℕ → List ℕ → Slice → Slice → Slice → Slice → Slice → Slice → Slice → Both Slices Slices
+slices_with before after pairs look diagrams stages rows marks setting =
     record {
       entry =
-          holding table.entry.now pairs.entry.now look.entry.now diagrams.entry.now stages.entry.now rows.entry.now
+          holding before pairs.entry.now look.entry.now diagrams.entry.now stages.entry.now rows.entry.now
           marks.entry.now setting.entry.now;
       exit =
-          holding table.exit.now pairs.exit.now look.exit.now diagrams.exit.now stages.exit.now rows.exit.now
+          holding after pairs.exit.now look.exit.now diagrams.exit.now stages.exit.now rows.exit.now
           marks.exit.now setting.exit.now;
     }
 
--- The same, where the table is only read.
-abbrev pub slices_read : Both (Bor (List ℕ)) (Bor (List ℕ)) → Slice → Slice → Slice → Slice → Slice → Slice → Slice → Both Slices Slices
-slices_read table pairs look diagrams stages rows marks setting =
-    record {
-      entry =
-          holding table.entry.now pairs.entry.now look.entry.now diagrams.entry.now stages.entry.now rows.entry.now
-          marks.entry.now setting.entry.now;
-      exit =
-          holding table.exit.now pairs.exit.now look.exit.now diagrams.exit.now stages.exit.now rows.exit.now
-          marks.exit.now setting.exit.now;
-    }
+-- What eight lent slices hold at entry and at exit.
+abbrev pub slices : Slice → Slice → Slice → Slice → Slice → Slice → Slice → Slice → Both Slices Slices
+slices table = slices_with table.entry.now table.exit.now
 
 -- The lengths of the five slices to work in, by the lists that they hold.
 abbrev pub room_of_lists : List ℕ → List ℕ → List ℕ → List ℕ → List ℕ → CompareRoom

@@ -3,7 +3,7 @@ ghost use Rattle.std.specs.Prelude.{◌*◌, ◌<◌, length, take, ◌≡◌};
 ghost use Rattle.compare_model.specs.Compare.{limits_of, said_by, setting_left, table_left, vertex_room};
 ghost use Rattle.compare_model.specs.Passed.{Enough, LimitsWithin};
 ghost use Rattle.compare_model.specs.Said.{said_of};
-ghost use Rattle.comparer.specs.Lent.{Slice, room_of_lists, slices_read};
+ghost use Rattle.comparer.specs.Lent.{Slice, room_of_lists, slices_with};
 ghost use Rattle.comparer.specs.code.Work.{Finishes, Swept};
 ghost use Rattle.sweep_state.specs.code.Ending.{verdict_of};
 ghost use Rattle.table.specs.Accepted.{Accepted};
@@ -33,7 +33,7 @@ pub fn run(
     requires known { output < outputs_of table.now }
     requires within { LimitsWithin (limits_of limits) }
     requires room { Enough (vertex_room table.now) limits.rows (room_of_lists pairs.old look.old diagrams.old stages.old rows.old) (length marks.old) }
-    ensures { (setting : Slice) → Swept output limits (slices_read table pairs look diagrams stages rows marks setting) result }
+    ensures { (setting : Slice) → Swept output limits (slices_with table.now table.now pairs look diagrams stages rows marks setting) result }
 {
     copy_in(table, output, pairs);
     let task = task_of(table, output, limits);

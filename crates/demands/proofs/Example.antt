@@ -82,7 +82,14 @@ record Computed : Type 0 where
   third_reply : (compared (comparison_of 0 size_one words)).reply ≡ Said.size 2 6 0
 
 computed : Computed
-unfolding answer_to answered beyond? compared entry_rows graph_words looked_at next_rows outputs_left outside? problem_of refusal_of row_words setting_bytes setting_left short_slice? table_left turned_back output_words pairs rows_of side_outputs malformed? beyond_limits? out_of_order? downward? all_below? row_below? graph_of functions_of first_functions inputs_from first_refusal vertex_values conj constant? constantly input invert same? sweep result_of conclude give_row go go_for meet multiply open_at pick_from ready? scan_from smaller swept top_part turns_left turns_of twin_from visit drop_at give_rows start look look_at and_then begin normalise normalise_from normalise_row folded_row found_row resolve takes_from take_at has? gone? bare? dropped? open? waits? said_by fold_of first_vertex own_words ◌and_then◌ add_part add_row count_step plain run among distinct filter alike? cofactors depends? parts size terminal? first_difference value_at
+unfolding answer_to answered beyond? compared entry_rows graph_words looked_at next_rows outputs_left outside? problem_of refusal_of
+    row_words setting_bytes setting_left short_slice? table_left turned_back output_words pairs rows_of side_outputs malformed?
+    beyond_limits? out_of_order? downward? all_below? row_below? graph_of functions_of first_functions inputs_from first_refusal
+    vertex_values conj constant? constantly input invert same? sweep result_of conclude give_row go go_for meet multiply open_at pick_from
+    ready? scan_from smaller swept top_part turns_left turns_of twin_from visit drop_at give_rows start look look_at and_then begin
+    normalise normalise_from normalise_row folded_row found_row resolve takes_from take_at has? gone? bare? dropped? open? waits? said_by
+    fold_of first_vertex own_words ◌and_then◌ add_part add_row count_step plain run among distinct filter alike? cofactors depends? parts
+    size terminal? first_difference value_at
 computed =
     record { first-accepted = refl; first-reply = refl; first-setting = refl; first-table = refl; second-reply = refl; second-table = refl; third_reply = refl }
 
