@@ -1,9 +1,20 @@
-use Prim.Native.Nat.{◌/◌}
+use Prim.Native.Nat.{◌/◌, ℕ}
 use Rattle.bdd.proofs.RowsLaws.{mark-one}
 use Rattle.bdd_size.proofs.MarkLaws.{ToWipe, clear-mark-asks, wipe_high, wipe_high-earlier, wipe_low, wipe_low-earlier, wipe_none, wipe_pos, wipe_row}
 use mathlib.Core.Path.{◌∙◌, ap, sym}
 use native.Mathlib.Omega.{arith}
 use Rattle.bdd_size.proofs.+wipe.Goals as goal
+use Rattle.bdd_size.proofs.+wipe.Goals.{After-high_of-high}
+
+-- What is known once both edges are read.
+known : (t : ℕ) (c : After-high_of-high t) → ToWipe c.args.rows.now c.args.i (c.low_of-low.result / 2) (c.high_of-high.result / 2)
+known t c =
+    record {
+      ready = c.requires;
+      one = mark-one c.args.rows.now c.args.i (λ z. c.if-mark_of-eq0.false (c.mark_of.ensures ∙ z));
+      low = ap (λ x. x / 2) c.low_of-low.ensures.0;
+      high = ap (λ x. x / 2) c.high_of-high.ensures.0;
+    }
 
 pub mark_of-requires : goal.mark_of-requires
 mark_of-requires t c = c.requires.long
@@ -20,45 +31,21 @@ high_of-high-requires t c = c.requires.long
 
 pub wipe-requires : goal.wipe-requires
 wipe-requires t c =
-    let opened : ToWipe c.args.rows.now c.args.i (c.low_of-low.result / 2) (c.high_of-high.result / 2) =
-    record {
-      ready = c.requires;
-      one = mark-one c.args.rows.now c.args.i (λ z. c.if-mark_of-eq0.false (c.mark_of.ensures ∙ z));
-      low = ap (λ x. x / 2) c.low_of-low.ensures.0;
-      high = ap (λ x. x / 2) c.high_of-high.ensures.0;
-    } in
+    let opened = known t ((goal.at.wipe-requires t c).After-high_of-high) in
     (omega (arith, wipe_low-earlier opened), wipe_low opened)
 
 pub wipe-requires-2 : goal.wipe-requires-2
 wipe-requires-2 t c =
-    let opened : ToWipe c.args.rows.now c.args.i (c.low_of-low.result / 2) (c.high_of-high.result / 2) =
-    record {
-      ready = c.requires;
-      one = mark-one c.args.rows.now c.args.i (λ z. c.if-mark_of-eq0.false (c.mark_of.ensures ∙ z));
-      low = ap (λ x. x / 2) c.low_of-low.ensures.0;
-      high = ap (λ x. x / 2) c.high_of-high.ensures.0;
-    } in
+    let opened = known t ((goal.at.wipe-requires-2 t c).After-high_of-high) in
     (omega (arith, wipe_high-earlier opened), wipe_high opened c.wipe.ensures)
 
 pub clear_mark-requires : goal.clear_mark-requires
 clear_mark-requires t c =
-    let opened : ToWipe c.args.rows.now c.args.i (c.low_of-low.result / 2) (c.high_of-high.result / 2) =
-    record {
-      ready = c.requires;
-      one = mark-one c.args.rows.now c.args.i (λ z. c.if-mark_of-eq0.false (c.mark_of.ensures ∙ z));
-      low = ap (λ x. x / 2) c.low_of-low.ensures.0;
-      high = ap (λ x. x / 2) c.high_of-high.ensures.0;
-    } in
+    let opened = known t ((goal.at.clear_mark-requires t c).After-high_of-high) in
     let asks = clear-mark-asks opened c.wipe.ensures c.wipe-2.ensures in
     (wipe_pos opened, asks.0, asks.1)
 
 pub returns : goal.returns
 returns t c =
-    let opened : ToWipe c.args.rows.now c.args.i (c.low_of-low.result / 2) (c.high_of-high.result / 2) =
-    record {
-      ready = c.requires;
-      one = mark-one c.args.rows.now c.args.i (λ z. c.if-mark_of-eq0.false (c.mark_of.ensures ∙ z));
-      low = ap (λ x. x / 2) c.low_of-low.ensures.0;
-      high = ap (λ x. x / 2) c.high_of-high.ensures.0;
-    } in
+    let opened = known t ((goal.at.returns t c).After-high_of-high) in
     wipe_row opened c.wipe.ensures c.wipe-2.ensures c.clear_mark.ensures
