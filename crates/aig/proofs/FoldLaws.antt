@@ -12,7 +12,8 @@ use Rattle.truth.proofs.Booleans.{cond_cases}
 use borrow.Author.Tests.{eqb-false, eqb-true, ltb-false, ltb-true}
 use lib.Dec.{eqb, ltb}
 use mathlib.Core.Logic.{◌⊎◌, inl, inr, ⊎_elim}
-use mathlib.Core.Path.{◌≡◌, ap, refl, subst, sym}
+use mathlib.Core.Path.{◌≡◌, refl, subst}
+use Rattle.std.proofs.lemmas.Grind.{common_steps}
 use native.Mathlib.Omega.{arith}
 
 -- A pair in order that passes the tests does not fold.
@@ -40,56 +41,45 @@ fold-cases p q P same inverse false_left false_right true_left true_right ordere
     (λ e. ordered (unfolded p q (eqb-false p 0 d₃) (eqb-false p 1 d₅) (eqb-false (negate p) q d₂) (ltb-true p q e)))
     (λ e. swapped (unfolded-swapped p q (eqb-false p q d₁) (eqb-false q 0 d₄) (eqb-false q 1 d₆) (eqb-false (negate p) q d₂) (ltb-false p q e)))
 
-to : {m n : ℕ} → m ≡ n → To (lit m) ≡ To (lit n)
-to e = ap (λ (n : ℕ). To (lit n)) e
-
 -- Equal operands give that operand.
 pub fold_same : (p q : ℕ) → p ≡ q → fold_of p q ≡ To (lit p)
-fold_same p q e =
-    fold-cases p q (λ f. f ≡ To (lit p)) (λ h. refl) (λ h. absurd (omega arith)) (λ h. to (sym h)) (λ h. to (omega arith)) (λ h. to (sym e))
-    (λ h. refl) (λ u. absurd (omega arith)) (λ u. absurd (omega arith))
+unfolding fold_of
+fold_same p q e = grind (arith, common_steps)
 
 -- An operand and its inversion give false.
 pub fold-inverse : (p q : ℕ) → negate p ≡ q → fold_of p q ≡ To (lit 0)
-fold-inverse p q e =
-    fold-cases p q (λ f. f ≡ To (lit 0)) (λ h. absurd (omega arith)) (λ h. refl) (λ h. refl) (λ h. refl) (λ h. to (omega arith))
-    (λ h. to (omega arith)) (λ u. absurd (omega arith)) (λ u. absurd (omega arith))
+unfolding fold_of
+fold-inverse p q e = grind (arith, common_steps)
 
 -- A first operand false gives false.
 pub fold_false_left : (p q : ℕ) → p ≡ 0 → fold_of p q ≡ To (lit 0)
-fold_false_left p q e =
-    fold-cases p q (λ f. f ≡ To (lit 0)) (λ h. to e) (λ h. refl) (λ h. refl) (λ h. refl) (λ h. absurd (omega arith)) (λ h. to e)
-    (λ u. absurd (omega arith)) (λ u. absurd (omega arith))
+unfolding fold_of
+fold_false_left p q e = grind (arith, common_steps)
 
 -- A second operand false gives false.
 pub fold_false_right : (p q : ℕ) → q ≡ 0 → fold_of p q ≡ To (lit 0)
-fold_false_right p q e =
-    fold-cases p q (λ f. f ≡ To (lit 0)) (λ h. to (omega arith)) (λ h. refl) (λ h. refl) (λ h. refl) (λ h. to e) (λ h. absurd (omega arith))
-    (λ u. absurd (omega arith)) (λ u. absurd (omega arith))
+unfolding fold_of
+fold_false_right p q e = grind (arith, common_steps)
 
 -- A first operand true gives the second.
 pub fold_true_left : (p q : ℕ) → p ≡ 1 → fold_of p q ≡ To (lit q)
-fold_true_left p q e =
-    fold-cases p q (λ f. f ≡ To (lit q)) (λ h. to h) (λ h. to (omega arith)) (λ h. absurd (omega arith)) (λ h. to (sym h)) (λ h. refl)
-    (λ h. to (omega arith)) (λ u. absurd (omega arith)) (λ u. absurd (omega arith))
+unfolding fold_of
+fold_true_left p q e = grind (arith, common_steps)
 
 -- A second operand true gives the first.
 pub fold_true_right : (p q : ℕ) → q ≡ 1 → fold_of p q ≡ To (lit p)
-fold_true_right p q e =
-    fold-cases p q (λ f. f ≡ To (lit p)) (λ h. refl) (λ h. to (omega arith)) (λ h. to (sym h)) (λ h. absurd (omega arith)) (λ h. to (omega arith))
-    (λ h. refl) (λ u. absurd (omega arith)) (λ u. absurd (omega arith))
+unfolding fold_of
+fold_true_right p q e = grind (arith, common_steps)
 
 -- A pair that does not fold is left as it stands.
 pub fold-ordered : (p q : ℕ) → Unfolded p q → fold_of p q ≡ Pair (lit p) (lit q)
-fold-ordered p q u =
-    fold-cases p q (λ f. f ≡ Pair (lit p) (lit q)) (λ h. absurd (omega arith)) (λ h. absurd (omega arith)) (λ h. absurd (omega arith))
-    (λ h. absurd (omega arith)) (λ h. absurd (omega arith)) (λ h. absurd (omega arith)) (λ u. refl) (λ w. absurd (omega arith))
+unfolding fold_of
+fold-ordered p q u = grind (arith, common_steps)
 
 -- A pair that does not fold is put in order.
 pub fold_swapped : (p q : ℕ) → Unfolded q p → fold_of p q ≡ Pair (lit q) (lit p)
-fold_swapped p q u =
-    fold-cases p q (λ f. f ≡ Pair (lit q) (lit p)) (λ h. absurd (omega arith)) (λ h. absurd (omega arith)) (λ h. absurd (omega arith))
-    (λ h. absurd (omega arith)) (λ h. absurd (omega arith)) (λ h. absurd (omega arith)) (λ w. absurd (omega arith)) (λ u. refl)
+unfolding fold_of
+fold_swapped p q u = grind (arith, common_steps)
 
 -- What the answer of a fold is, by cases.
 Answer : ℕ → ℕ → Folded → Type 0

@@ -1,9 +1,10 @@
 -- The look-up's invariant: how it starts and what keeps it.
+use Rattle.std.proofs.lemmas.Grind.{common_steps}
+use Rattle.std.specs.Prelude.{None}
 use Prim.Native.Nat.{◌*◌, ◌+◌, ◌<◌, ◌≤◌, ℕ}
 use Rattle.aig.proofs.FirstVertexLaws.{found_nothing}
 use Rattle.aig.specs.Lookup.{Agree, Entered, Highest, HoldsRow, Indexed, Unused, cleared, entered, first_place, first_vertex, first_word, head_of, next_of, place_of, second_word, with_row}
-use Rattle.aig.specs.declared.lookup.Found.TheVariants.{Nothing}
-use lib.ListN.{get_or-append, drop, get_or, get_or-replicate, length, length-append, length-drop, length-replicate, length-set, replicate, set}
+use lib.ListN.{get_or, length, length-append, length-drop, length-replicate, length-set, set}
 use lib.Seq.{get_or-set_other, get_or-set_same}
 use mathlib.Core.List.{List}
 use mathlib.Core.Logic.{◌⊎◌, inl, inr, ⊎_elim}
@@ -51,7 +52,7 @@ module _ (pairs other : List ℕ) (n : ℕ) (agree : Agree pairs other n) where
   same_place places v lt = ap₂ (first_place places) (same_first v lt) (same_second v lt)
 
   holds-before : (v p q : ℕ) → v < n → HoldsRow other v p q → HoldsRow pairs v p q
-  holds-before v p q lt h = record { first = sym (same_first v lt) ∙ h.first; second = sym (same_second v lt) ∙ h.second }
+  holds-before v p q lt h = grind (arith, common_steps)
 
   entered-before : (v : ℕ) → v < n → Entered other v → Entered pairs v
   entered-before v lt h e = h (same_first v lt ∙ e ∙ sym (same_second v lt))
@@ -60,14 +61,7 @@ module _ (pairs other : List ℕ) (n : ℕ) (agree : Agree pairs other n) where
   entered-after v lt h e = h (sym (same_first v lt) ∙ e ∙ same_second v lt)
 
   highest-frame : (places place k e : ℕ) → k ≤ n → Highest pairs places place k e → Highest other places place k e
-  highest-frame places place k e le h =
-      record {
-        within = h.within;
-        is-entered = λ one. entered-after e (omega (arith, h.within one)) (h.is-entered one);
-        placed = λ one. same_place places e (omega (arith, h.within one)) ∙ h.placed one;
-        none_above = λ v above below w at.
-            h.none_above v above below (entered-before v (omega arith) w) (sym (same_place places v (omega arith)) ∙ at);
-      }
+  highest-frame places place k e le h = grind (arith, common_steps)
 
 -- Words of vertices that are not counted do not matter.
 pub indexed-frame :
@@ -128,10 +122,10 @@ equal-counts {pairs} {look} {v} {places} h equal lt fits =
     }
   where
     old : (u : ℕ) → Entered pairs u → u < v + 1 → u < v
-    old u w l = ⊎_elim (λ (o : u < v). o) (λ (e : u ≡ v). absurd (subst (Entered pairs) e w equal)) (old_or_new u v l)
+    old u w l = grind (arith, common_steps)
 
     others : (a b : ℕ) → Entered pairs a → HoldsRow pairs b (first_word pairs a) (second_word pairs a) → Entered pairs b
-    others a b w same = holds-entered pairs b (first_word pairs a) (second_word pairs a) w same
+    others a b w same = grind (arith, common_steps)
 
 module _
     {pairs look : List ℕ} {v places p q : ℕ} (h : Indexed pairs v look places) (holds : HoldsRow pairs v p q) (apart : p ≡ q → ⊥)
@@ -164,17 +158,11 @@ module _
   new-placed = holds-place pairs places v p q holds
 
   new-head : Highest pairs places own-place (v + 1) v
-  new-head =
-      record {
-        within = λ one. omega arith;
-        is-entered = λ one. holds-entered pairs v p q apart holds;
-        placed = λ one. new-placed;
-        none_above = λ u above lt w at. absurd (omega arith);
-      }
+  new-head = grind (arith, common_steps)
 
   -- No lower vertex has the new vertex's pair.
   never : (u : ℕ) → u < v → first_word pairs u ≡ first_word pairs v → second_word pairs u ≡ second_word pairs v → ⊥
-  never u lt e d = unused u lt (record { first = e ∙ holds.first; second = d ∙ holds.second })
+  never u lt e d = grind (arith, common_steps)
 
   still-once :
       (a b : ℕ) → a < v + 1 → b < v + 1 → Entered pairs a → HoldsRow pairs b (first_word pairs a) (second_word pairs a) → a ≡ b
@@ -215,15 +203,11 @@ module _
 module _ (pairs : List ℕ) (v p q : ℕ) (fits : 2 * v + 1 < length pairs) where
   -- It holds them.
   pub row-holds : HoldsRow (with_row pairs v p q) v p q
-  row-holds =
-      record {
-        first = stored-first pairs (2 * v) (2 * v + 1) p q (omega arith) (omega arith);
-        second = stored-second pairs (2 * v) (2 * v + 1) p q fits;
-      }
+  row-holds = grind (arith, common_steps)
 
   -- The vertices below it hold what they held.
   pub row_agrees : Agree pairs (with_row pairs v p q) v
-  row_agrees i lt = stored-neither pairs (2 * v) (2 * v + 1) p q i (omega arith) (omega arith)
+  row_agrees i lt = grind (arith, common_steps)
 
   -- The length is kept.
   pub row_length : length (with_row pairs v p q) ≡ length pairs
@@ -242,7 +226,7 @@ equal-keeps {pairs} {look} {v} {places} x h lt fits =
 
 -- A vertex written with a pair that none has, and entered, keeps the invariant.
 pub enter-keeps :
-    {pairs look : List ℕ} {v places : ℕ} (p q : ℕ) → Indexed pairs v look places → (p ≡ q → ⊥) → first_vertex pairs p q v ≡ Nothing → 1 ≤ v
+    {pairs look : List ℕ} {v places : ℕ} (p q : ℕ) → Indexed pairs v look places → (p ≡ q → ⊥) → first_vertex pairs p q v ≡ None → 1 ≤ v
     → v < places → 2 * v + 1 < length pairs → Indexed (with_row pairs v p q) (v + 1) (entered look places v p q) places
 enter-keeps {pairs} {look} {v} {places} p q h apart none positive below fits =
     enter_counts (row-indexed pairs v p q fits h) (row-holds pairs v p q fits) apart unused positive below (rw (row_length pairs v p q fits) fits)
@@ -275,5 +259,4 @@ clear-starts pairs count look places one few long fits equal =
     }
   where
     empty : (place : ℕ) → place < places → head_of (cleared look places) place ≡ 0
-    empty place lt =
-        get_or-append (replicate places 0) (drop places look) 0 place (rw (length-replicate {A = ℕ} places 0) lt) ∙ get_or-replicate places place 0 0 lt
+    empty place lt = grind (arith, common_steps)

@@ -2,9 +2,7 @@
 --
 -- `pairs` has two words a vertex. Inputs and merged vertices hold equal words, which are never entered and never asked for. `look` has a head for each of its
 -- places, then a next word for each vertex. A head or a next word is a vertex number, 0 for none: vertex 0 is the constant and is never entered.
-use Rattle.std.specs.Prelude.{◌%◌, ◌*◌, ◌+◌, ◌<◌, ◌^◌, ◌≤◌, suc, zero, ℕ, eqb, drop, get_or, length, replicate, set, Bool, ◌&&◌, cond, List, [], ◌++◌, ◌∷◌, ◌≡◌}
-use Rattle.aig.specs.declared.lookup.Found.TheVariants.{At, Nothing}
-use Rattle.aig.specs.declared.lookup.Found.{Found}
+use Rattle.std.specs.Prelude.{◌%◌, ◌*◌, ◌+◌, ◌<◌, ◌^◌, ◌≤◌, suc, zero, ℕ, eqb, drop, get_or, length, replicate, set, Bool, ◌&&◌, cond, List, [], ◌++◌, ◌∷◌, ◌≡◌, Option, Some, None}
 
 -- The first of the two words of a vertex.
 abbrev pub first_word : List ℕ → ℕ → ℕ
@@ -28,13 +26,13 @@ abbrev pub has_pair : List ℕ → ℕ → ℕ → ℕ → Bool
 has_pair pairs v p q = eqb (first_word pairs v) p && eqb (second_word pairs v) q
 
 -- What was found, or else vertex v where it has the pair.
-abbrev pub or_here : Found → Bool → ℕ → Found
-or_here (At u) b v = At u
-or_here Nothing b v = cond b (At v) Nothing
+abbrev pub or_here : Option ℕ → Bool → ℕ → Option ℕ
+or_here (Some u) b v = Some u
+or_here None b v = cond b (Some v) None
 
 -- "Found: the pair already has a vertex." The first vertex below a count whose words are p and q, or none. (RULES 3.5)
-unfoldable pub first_vertex : List ℕ → ℕ → ℕ → ℕ → Found
-first_vertex pairs p q zero = Nothing
+unfoldable pub first_vertex : List ℕ → ℕ → ℕ → ℕ → Option ℕ
+first_vertex pairs p q zero = None
 first_vertex pairs p q (suc n) = or_here (first_vertex pairs p q n) (has_pair pairs n p q) n
 
 -- "A pair's first place in the look-up is a wrapping 32-bit sum of its references, reduced to the look-up's length; the search

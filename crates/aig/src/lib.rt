@@ -3,4 +3,3 @@
 
 pub mod fold;
 pub mod literal;
-pub mod lookup;

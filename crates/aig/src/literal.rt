@@ -3,7 +3,7 @@ ghost use Rattle.std.specs.Prelude.{◌<◌, ◌^◌, ◌≡◌};
 ghost use Rattle.aig.specs.Literal.{inverted?, lit, literal_of, negate, onto, vertex_of};
 
 // Twice a vertex number, plus 1 if inverted.
-#[derive(Clone, Copy)]
+#[derive(Clone, Copy, Debug, PartialEq, Eq, PartialOrd, Ord)]
 pub struct Literal(pub u32);
 
 impl Literal {
@@ -15,11 +15,7 @@ impl Literal {
         requires { vertex < 2 ^ 31 }
         ensures { result ≡ lit (literal_of vertex inverted) }
     {
-        if inverted {
-            Literal(vertex * 2 + 1)
-        } else {
-            Literal(vertex * 2)
-        }
+        Literal(2 * vertex + inverted as u32)
     }
 
     pub fn negated(self) -> Self

@@ -1,9 +1,10 @@
 -- What a walk along a chain of the look-up has shown.
+use Rattle.std.proofs.lemmas.Grind.{common_steps}
+use Rattle.std.specs.Prelude.{Some, None}
 use Rattle.std.proofs.Common.{◌≡◌, ℕ, ◌<◌, ◌≤◌, true, false, List, sym, ◌∙◌, subst, arith}
 use Rattle.aig.proofs.FirstVertexLaws.{first-at, first_nothing, has_pair_lem, lacks-pair}
 use Rattle.aig.proofs.IndexLaws.{first_place-below, holds-entered, holds-place}
 use Rattle.aig.specs.Lookup.{Entered, Highest, HoldsRow, Indexed, Unused, first_place, first_vertex, has_pair, head_of, next_of, place_of}
-use Rattle.aig.specs.declared.lookup.Found.TheVariants.{At, Nothing}
 use native.Mathlib.Decide.{dec_lt, ℕ_discrete}
 
 -- The walk along the pair's chain has come to entry e: no vertex above it has the pair.
@@ -56,14 +57,10 @@ module _ {pairs : List ℕ} {count : ℕ} {look : List ℕ} {places p q : ℕ} (
 
   -- The next word is a lower vertex, or none.
   pub walk_falls : (e : ℕ) → 1 ≤ e → Walk pairs count places p q e → next_of look places e < e
-  walk_falls e one w =
-      elim (dec_lt 0 (next_of look places e)) [
-        | yes l ↦ (h.nexts e (w.within one) (w.is-entered one)).within l
-        | no l ↦ omega arith
-      ]
+  walk_falls e one w = grind (arith, common_steps)
 
   -- A vertex on the way that has the pair is the first with it.
-  pub walk_finds : (e : ℕ) → 1 ≤ e → Walk pairs count places p q e → has_pair pairs e p q ≡ true → At e ≡ first_vertex pairs p q count
+  pub walk_finds : (e : ℕ) → 1 ≤ e → Walk pairs count places p q e → has_pair pairs e p q ≡ true → Some e ≡ first_vertex pairs p q count
   walk_finds e one w has =
       sym (first-at pairs p q count e (record { within = w.within one; holds = here; unused-before = earlier }))
     where
@@ -71,21 +68,11 @@ module _ {pairs : List ℕ} {count : ℕ} {look : List ℕ} {places p q : ℕ} (
       here = has_pair_lem pairs p q e has
 
       earlier : Unused pairs p q e
-      earlier u lt same =
-          let z : e ≡ u =
-          h.once e u (w.within one) (omega (arith, w.within one)) (w.is-entered one)
-          (record { first = same.first ∙ sym here.first; second = same.second ∙ sym here.second }) in
-          omega arith
+      earlier u lt same = grind (arith, common_steps)
 
-  -- At the end no vertex has the pair.
-  pub walk_ends : (e : ℕ) → e ≡ 0 → Walk pairs count places p q e → Nothing ≡ first_vertex pairs p q count
+  -- Some the end no vertex has the pair.
+  pub walk_ends : (e : ℕ) → e ≡ 0 → Walk pairs count places p q e → None ≡ first_vertex pairs p q count
   walk_ends e zero w = sym (first_nothing pairs p q count unused)
     where
       unused : Unused pairs p q count
-      unused v lt same =
-          elim (dec_lt e v) [
-            | yes l ↦ w.passed v l lt same
-            | no l ↦
-                (let d : v ≡ 0 = omega arith in
-                holds-entered pairs 0 p q apart (subst (λ (u : ℕ). HoldsRow pairs u p q) d same) (h.constant (omega arith)))
-          ]
+      unused v lt same = grind (arith, common_steps)

@@ -4,14 +4,13 @@
 ghost use Rattle.std.specs.Prelude.{◌≡◌, ◌+◌, ◌*◌, ◌<◌, ◌≤◌, length, ◌≢◌};
 ghost use Rattle.aig.specs.Lookup.{Indexed, cleared, entered, first_place, first_vertex, has_pair};
 
-use aig::lookup::Found;
-
 // The place whose chain holds the pair's vertex.
+#[tactic(auto, unfolding(aig::specs::Lookup::first_place))]
 fn first_place(places: usize, p: u32, q: u32) -> usize
     requires { 1 ≤ places }
     ensures { (result ≡ first_place places p q) × (result < places) }
 {
-    std::num::wrapping_add_u32(p, q) as usize % places
+    p.wrapping_add(q) as usize % places
 }
 
 fn has_pair(pairs: &[u32], v: u32, p: u32, q: u32) -> bool
@@ -19,11 +18,7 @@ fn has_pair(pairs: &[u32], v: u32, p: u32, q: u32) -> bool
     ensures { result ≡ has_pair pairs.now v p q }
 {
     let at = 2 * v as usize;
-    if pairs[at] == p {
-        pairs[at + 1] == q
-    } else {
-        false
-    }
+    pairs[at] == p && pairs[at + 1] == q
 }
 
 // Empties every place. The next words stay as they are.
@@ -31,15 +26,20 @@ pub fn clear(look: &mut [u32], places: usize)
     requires { places ≤ length look.old }
     ensures { look.new ≡ cleared look.old places }
 {
-    let mut i = 0;
-    while i < places {
-        look[i] = 0;
-        i += 1;
-    }
+    look[..places].fill(0);
 }
 
 // The first vertex below `count` whose words are p and q. The walk needs no count: the contract does.
-pub fn find_vertex(pairs: &[u32], count: u32, look: &[u32], places: usize, p: u32, q: u32) -> Found
+// `pairs`, `look` and `places` are parameters and no struct: the callers hold the slices in structs of their own, beside others.
+// A place's chain is linked in the words of the look-up, so the walk along it is a `while`, and 0 ends it.
+pub fn find_vertex(
+    pairs: &[u32],
+    count: u32,
+    look: &[u32],
+    places: usize,
+    p: u32,
+    q: u32,
+) -> Option<u32>
     requires index { Indexed pairs.now count look.now places }
     requires apart { p ≢ q }
     ensures { result ≡ first_vertex pairs.now p q count }
@@ -47,11 +47,11 @@ pub fn find_vertex(pairs: &[u32], count: u32, look: &[u32], places: usize, p: u3
     let mut v = look[first_place(places, p, q)];
     while 0 < v {
         if has_pair(pairs, v, p, q) {
-            return Found::At(v);
+            return Some(v);
         }
         v = look[places + v as usize];
     }
-    Found::Nothing
+    None
 }
 
 // Vertex v, higher than every vertex entered before it, takes the head of its pair's place.

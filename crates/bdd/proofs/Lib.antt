@@ -5,4 +5,7 @@ pub mod StoreLaws
 pub mod AgreeLaws
 pub mod SplitLaws
 pub mod DifferenceLaws
+pub mod WritingLaws
 pub mod OwnerLaws
+pub mod WordLaws
+pub mod WalksLaws

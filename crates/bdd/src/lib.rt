@@ -4,3 +4,4 @@
 pub mod difference;
 pub mod references;
 pub mod rows;
+pub mod store;

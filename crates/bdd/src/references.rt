@@ -1,11 +1,13 @@
 // References: twice a row, plus 1 if inverted. 0 is false and 1 is true.
-ghost use Rattle.std.specs.Prelude.{◌*◌, ◌/◌, ◌≤◌, max, length, ◌≡◌};
+// They stand as numbers in the words of rows and of other slices: a type of its own would be packed and unpacked at each of them.
+ghost use Rattle.std.specs.Prelude.{◌*◌, ◌/◌, ◌≤◌, length, ◌≡◌};
 ghost use Rattle.bdd.specs.Diagram.{cofactor, edge};
 ghost use Rattle.bdd.specs.code.Split.{Ends, Halved};
 
 use crate::rows::{child_of, level_of};
 
 // The reference c, inverted once more where r is inverted.
+#[tactic(auto, unfolding(crate::specs::Diagram::edge))]
 pub fn edge_to(c: usize, r: usize) -> usize
     ensures { result ≡ edge c r }
 {
@@ -24,43 +26,29 @@ pub fn cofactor_of(rows: &[u32], b: bool, level: usize, r: usize) -> usize
     }
 }
 
-// How the AND of two references ends without a look at their rows.
-#[derive(Clone, Copy)]
-pub enum Ending {
-    Yes(usize),
-    No,
-}
-
-// The AND of f and g where one is constant, or they are equal or inverse.
-pub fn ends(f: usize, g: usize) -> Ending
+// The AND of f and g where one is constant, or they are equal or inverse; none where it does not end without a look at their rows.
+pub fn ends(f: usize, g: usize) -> Option<usize>
     ensures { Ends f g result }
 {
     if f == 0 {
-        return Ending::Yes(0);
+        return Some(0);
     }
     if g == 0 {
-        return Ending::Yes(0);
+        return Some(0);
     }
     if f == 1 {
-        return Ending::Yes(g);
+        return Some(g);
     }
     if g == 1 {
-        return Ending::Yes(f);
+        return Some(f);
     }
     if f == g {
-        return Ending::Yes(f);
+        return Some(f);
     }
     if f / 2 == g / 2 {
-        return Ending::Yes(0);
+        return Some(0);
     }
-    Ending::No
-}
-
-// The higher of two levels.
-fn higher(a: usize, b: usize) -> usize
-    ensures { result ≡ max a b }
-{
-    if a < b { b } else { a }
+    None
 }
 
 // Two references f and g at the higher of their levels: the cofactors where that input is 0 and where it is 1.
@@ -78,7 +66,7 @@ pub fn split_at_top(rows: &[u32], f: usize, g: usize) -> Halves
     requires { (f / 2 * 4 ≤ length rows.now) × (g / 2 * 4 ≤ length rows.now) }
     ensures { Halved rows.now f g result }
 {
-    let top = higher(level_of(rows, f / 2), level_of(rows, g / 2));
+    let top = level_of(rows, f / 2).max(level_of(rows, g / 2));
     Halves {
         level: top,
         f0: cofactor_of(rows, false, top, f),

@@ -210,16 +210,6 @@ marked-count s i pos fits free (suc n) le =
           omega arith)
     ]
 
--- Nothing to mark.
-marks-none : (s : List ℕ) (i : ℕ) → (1 ≤ i → mark_at s i ≡ 1) → Marks s s i 0
-marks-none s i self = record { more = more-self s; self = self; only = λ j o. inl o; count = λ n le. omega arith; closed = λ n le C. C }
-
-pub mark-constant-row : (s : List ℕ) (i : ℕ) → i ≡ 0 → Marks s s i 0
-mark-constant-row s i e = marks-none s i (λ pos. absurd (omega arith))
-
-pub mark-again : (s : List ℕ) (i : ℕ) → mark_at s i ≡ 1 → Marks s s i 0
-mark-again s i o = marks-none s i (λ pos. o)
-
 -- Row i is to be marked, after the rows l and h of its edges.
 pub record ToMark (s : List ℕ) (i l h : ℕ) : Type 0 where
   pub pos : 1 ≤ i

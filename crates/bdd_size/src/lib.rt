@@ -4,27 +4,28 @@
 ghost use Rattle.std.specs.Prelude.{◌*◌, ◌/◌, ◌≤◌, length, ◌≡◌};
 ghost use Rattle.bdd.specs.Diagram.{Canonical};
 ghost use Rattle.bdd.specs.code.Rows.{mark_at};
-ghost use Rattle.bdd.specs.code.Store.{Store};
+ghost use Rattle.bdd.specs.code.Slice.{SameSlice};
 ghost use Rattle.bdd_size.specs.code.Marks.{Marks, Sized, WipeReady, Wipes, marked, wiped};
 
-use bdd::rows::{MARK, high_of, low_of, mark_of, put_word, word_of};
+use bdd::rows::{MARK, Word, high_of, is_marked, low_of, put_word, word_of};
+use bdd::store::RowStore;
 
 // Marks row i.
 fn set_mark(rows: &mut [u32], i: usize)
     requires { (1 ≤ i) × (i * 4 ≤ length rows.old) × (mark_at rows.old i ≡ 0) }
     ensures { rows.new ≡ marked rows.old i }
 {
-    let w = word_of(rows, 0, i);
-    put_word(rows, 0, i, w + MARK);
+    let w = word_of(rows, Word::Low, i);
+    put_word(rows, Word::Low, i, w + MARK);
 }
 
-// Takes the mark off row i.
+// Takes the mark off row i. A function of both marks would take the word to write, and do no more than `put_word`.
 fn clear_mark(rows: &mut [u32], i: usize)
     requires { (1 ≤ i) × (i * 4 ≤ length rows.old) × (mark_at rows.old i ≡ 1) }
     ensures { rows.new ≡ wiped rows.old i }
 {
-    let w = word_of(rows, 0, i);
-    put_word(rows, 0, i, w - MARK);
+    let w = word_of(rows, Word::Low, i);
+    put_word(rows, Word::Low, i, w - MARK);
 }
 
 // Marks the rows reached from row i, and counts those that were not marked.
@@ -35,7 +36,7 @@ fn mark(rows: &mut [u32], i: usize) -> usize
     if i == 0 {
         return 0;
     }
-    if mark_of(rows, i) == 1 {
+    if is_marked(rows, i) {
         return 0;
     }
     let low = low_of(rows, i) / 2;
@@ -47,11 +48,12 @@ fn mark(rows: &mut [u32], i: usize) -> usize
 }
 
 // Wipes the marks of the rows reached from row i.
+// Not one function with `mark`: it asks for marked rows, and promises no count.
 fn wipe(rows: &mut [u32], i: usize)
     requires { WipeReady rows.old i }
     ensures { Wipes rows.old rows.new i }
 {
-    if mark_of(rows, i) == 0 {
+    if !is_marked(rows, i) {
         return;
     }
     let low = low_of(rows, i) / 2;
@@ -62,12 +64,13 @@ fn wipe(rows: &mut [u32], i: usize)
 }
 
 // The size of the function of r.
-pub fn size(rows: &mut [u32], used: usize, limit: usize, r: usize) -> usize
-    requires store { Store rows.old limit used }
-    requires stored { r / 2 ≤ used }
-    ensures { Sized rows.old rows.new r result }
+pub fn size(store: &mut RowStore<'_>, r: usize) -> usize
+    requires { r / 2 ≤ store.old.used }
+    ensures same { SameSlice store.old store.new × (store.new.used ≡ store.old.used) }
+    ensures sized { Sized store.old.rows.now store.new.rows.now r result }
 {
-    let c = mark(rows, r / 2);
+    let rows = &mut *store.rows;
+    let count = mark(rows, r / 2);
     wipe(rows, r / 2);
-    c
+    count
 }

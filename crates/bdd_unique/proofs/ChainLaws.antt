@@ -29,11 +29,6 @@ pub bucket-is : (rows : List ℕ) (limit i m a b : ℕ) → Is rows i m a b → 
 unfolding bucket_of
 bucket-is rows limit i m a b I = rw (I.level, I.low, I.high)
 
-pub bucket-fields : (rows : List ℕ) (limit i : ℕ) {m a b k : ℕ} → m ≡ level_at rows i → a ≡ low_at rows i → b ≡ high_at rows i
-    → k ≡ bucket limit m a b → k ≡ bucket_of rows limit i
-unfolding bucket_of
-bucket-fields rows limit i em ea eb ek = rw (← em, ← ea, ← eb) ek
-
 -- The four words of a row, written one after the other.
 pub added-words : (s : List ℕ) (limit n m a b : ℕ) {k h : ℕ} {s1 s2 s3 s4 : List ℕ} → k ≡ bucket limit m a b → h ≡ head_at s k
     → s1 ≡ put s 0 (n + 1) (a * RADIX + m) → s2 ≡ put s1 1 (n + 1) (b * RADIX) → s3 ≡ put s2 2 (n + 1) h → s4 ≡ put s3 3 (k + 1) (n + 1)
@@ -395,12 +390,11 @@ pub record Returning (before now : List ℕ) (limit used kept i : ℕ) : Type 0 
   pub is : now ≡ returned before limit used (used - i)
   pub least : kept ≤ i
   pub most : i ≤ used
-  pub long : length now ≡ length before
 
 module _ (before : List ℕ) (limit used kept : ℕ) where
   pub returning_begins : kept ≤ used → Returning before before limit used kept used
   unfolding returned
-  returning_begins le = record { is = ap (returned before limit used) (sym (sub_self used)); least = le; most = omega arith; long = refl }
+  returning_begins le = record { is = ap (returned before limit used) (sym (sub_self used)); least = le; most = omega arith }
 
   pub returning_on : (now : List ℕ) (i : ℕ) → Returning before now limit used kept i → kept < i → (t : List ℕ) → t ≡ unlinked now limit i → Returning before t limit used kept (i - 1)
   unfolding returned unlinked
@@ -411,16 +405,25 @@ module _ (before : List ℕ) (limit used kept : ℕ) where
         is = e ∙ ap₂ (λ (l : List ℕ) (j : ℕ). unlinked l limit j) R.is (sym back) ∙ ap (returned before limit used) next;
         least = omega arith;
         most = omega (arith, R.most);
-        long = ap length e ∙ length_put now 3 (suc (bucket_of now limit i)) (next_at now i) ∙ R.long;
       }
 
+  -- What is left has room.
   pub returning_room : Store before limit used → (now : List ℕ) (i : ℕ) → Returning before now limit used kept i → StoreRoom now limit i
-  returning_room S now i R = record { used = omega (arith, R.most, S.room.used); small = S.room.small; long = omega (arith, R.long, S.room.long) }
+  returning_room S now i R =
+      let back : used - (used - i) ≡ i = omega (arith, R.most) in
+      let T = returned-store before limit used S (used - i) (omega (arith, R.most)) in
+      (subst (λ (l : List ℕ). Store l limit i) (sym R.is) (rw back at T.0)).room
 
-  pub returning_ends : Store before limit used → (now : List ℕ) (i : ℕ) → Returning before now limit used kept i → i ≤ kept → GivenBack before now limit used kept
-  returning_ends S now i R le =
-      let e : i ≡ kept = omega (arith, R.least) in
+  pub returning_ends : Store before limit used → (now : List ℕ) (i : ℕ) → Returning before now limit used kept i → i ≡ kept → GivenBack before now limit used kept
+  returning_ends S now i R e =
       given_back_lem before limit used kept S (omega (arith, R.most, R.least)) now (subst (λ (x : ℕ). now ≡ returned before limit used (used - x)) e R.is)
+
+-- One row given back leaves a store of the others.
+pub unlinked_one : {now t : List ℕ} {limit i : ℕ} → Store now limit i → 1 ≤ i → t ≡ unlinked now limit i → Store t limit (i - 1)
+unlinked_one {now} {t} {limit} {i} S pos e = go (i - 1) (omega arith)
+  where
+    go : (n : ℕ) → i ≡ suc n → Store t limit n
+    go n same = let U : Store now limit (suc n) = rw same at S in rw (e, same) (unlinked-store U)
 
 -- An empty store.
 pub length_emptied : (s : List ℕ) (k : ℕ) → length (emptied s k) ≡ length s
@@ -434,19 +437,24 @@ pub record Emptying (before now : List ℕ) (limit i : ℕ) : Type 0 where
   pub within : i ≤ limit
   pub long : length now ≡ length before
 
+-- At first none need be.
 pub emptying_begins : (before : List ℕ) (limit : ℕ) → Emptying before before limit 0
 unfolding emptied
 emptying_begins before limit = record { is = refl; within = omega arith; long = refl }
 
-pub emptying_on : (before now : List ℕ) (limit i : ℕ) → Emptying before now limit i → i < limit → (t : List ℕ) → t ≡ put now 3 (i + 1) 0 → Emptying before t limit (i + 1)
+-- One bucket more is empty.
+pub emptied_more : (before : List ℕ) (i : ℕ) {now t : List ℕ} → now ≡ emptied before i → t ≡ put now 3 (i + 1) 0 → t ≡ emptied before (i + 1)
 unfolding emptied
+emptied_more before i is e = e ∙ rw (is, add-one i)
+
+-- The next bucket is emptied.
+pub emptying_on : (before now : List ℕ) (limit i : ℕ) → Emptying before now limit i → i < limit → (t : List ℕ) → t ≡ put now 3 (i + 1) 0 → Emptying before t limit (i + 1)
 emptying_on before now limit i E lt t e =
-    rw (add-one i)
-    (record {
-      is = e ∙ ap₂ (λ (l : List ℕ) (j : ℕ). put l 3 j 0) E.is (add-one i);
+    record {
+      is = emptied_more before i E.is e;
       within = omega arith;
       long = ap length e ∙ length_put now 3 (i + 1) 0 ∙ E.long;
-    })
+    }
 
 emptied-heads : (s : List ℕ) (k : ℕ) → k * 4 ≤ length s → (b : ℕ) → b < k → head_at (emptied s k) b ≡ 0
 unfolding emptied head_at

@@ -8,7 +8,7 @@ use Rattle.bdd.specs.Diagram.{Canonical, Reference, Row, cofactor, denote, edge,
 use Rattle.bdd.specs.code.Rows.{MARK, high_at, level_at, low_at}
 use Rattle.bdd.specs.code.Store.{Agree, Kept, Store}
 use Rattle.bdd_unique.proofs.ChainLaws.{added_is, added-kept, added-owner, added-store}
-use Rattle.bdd_unique.specs.code.Unique.{Found, Grown, Is, MadeAt, MadeFull, NewRow, add_part, added, join, plain}
+use Rattle.bdd_unique.specs.code.Unique.{Absent, FoundAt, Grown, Is, MadeAt, MadeFull, NewRow, add_part, added, join, plain}
 use Rattle.truth.proofs.Booleans.{not_true}
 use Rattle.truth.proofs.Equality.{invert-twice, same-equal, same-reflexive}
 use Rattle.truth.proofs.Parts.{perfect_depth}
@@ -21,6 +21,7 @@ use mathlib.Core.List.{List, [], ◌∷◌}
 use mathlib.Core.Logic.{⊎_elim}
 use mathlib.Core.Path.{◌∙◌, ◌≡◌, ap, ap₂, refl, subst, sym}
 use native.Mathlib.Decide.{dec_le, ℕ_discrete}
+use native.Mathlib.Numerals.{add-one}
 use native.Mathlib.Omega.{arith}
 
 -- Adding a part.
@@ -84,12 +85,11 @@ pub record MakeAsked (s : List ℕ) (limit n level a b : ℕ) : Type 0 where
   pub low : Reference s n (level - 1) a
   pub high : Reference s n (level - 1) b
 
--- What `find` answered on the edges c and d, of which the low one is not inverted.
-pub record Searched (s : List ℕ) (n level a b c d i : ℕ) : Type 0 where
+-- The edges c and d of the row, of which the low one is not inverted.
+pub record Edges (a b c d : ℕ) : Type 0 where
   pub differ : a ≡ b → ⊥
   pub low : c ≡ edge a a
   pub high : d ≡ edge b a
-  pub found : Found s n level c d i
 
 module _ {s : List ℕ} {limit n level a b : ℕ} (Q : MakeAsked s limit n level a b) where
   S : Store s limit n
@@ -122,9 +122,9 @@ module _ {s : List ℕ} {limit n level a b : ℕ} (Q : MakeAsked s limit n level
       }
 
   -- The edges of a row with the halves a and b, the low one not inverted.
-  pub make_row : (a ≡ b → ⊥) → {c d : ℕ} → c ≡ edge a a → d ≡ edge b a → NewRow s n level c d
-  make_row differ ec ed =
-      rw (ec, ed)
+  pub make_row : {c d : ℕ} → Edges a b c d → NewRow s n level c d
+  make_row E =
+      rw (E.low, E.high)
       (record {
         deep = Q.deep;
         small = Q.small;
@@ -133,7 +133,7 @@ module _ {s : List ℕ} {limit n level a b : ℕ} (Q : MakeAsked s limit n level
         low-level = rw (edge_row a a) (omega (arith, A.fits, Q.deep));
         high-level = rw (edge_row b a) (omega (arith, B.fits, Q.deep));
         plain = edge-bit a a ∙ even a;
-        differ = λ e. differ (edge_injective a b a e);
+        differ = λ e. E.differ (edge_injective a b a e);
       })
     where
       even : (a : ℕ) → (a + a) % 2 ≡ 0
@@ -210,27 +210,26 @@ module _ {s : List ℕ} {limit n level a b : ℕ} (Q : MakeAsked s limit n level
             omega (arith, w.earlier false),
           )
 
-  module _ {c d i : ℕ} (F : Searched s n level a b c d i) where
+  module _ {c d : ℕ} (F : Edges a b c d) where
     -- A row is found.
-    pub make_found : (i ≡ 0 → ⊥) → {r : ℕ} → r ≡ edge (i * 2) a → MadeAt s s limit n level a b r n
+    pub make_found : {i r : ℕ} → FoundAt s n level c d i → r ≡ edge (i * 2) a → MadeAt s s limit n level a b r n
     unfolding row_function
-    make_found pos {r} er =
-        let at = F.found.found (omega arith) in
-        let I : Is s i level (edge a a) (edge b a) = rw (F.low, F.high) at at.1 in
+    make_found {i} {r} at er =
+        let I : Is s i level (edge a a) (edge b a) = rw (F.low, F.high) at at.is in
         let G : Agree s s n = (kept_self s n).agree in
         let D : denote s level r ≡ f = row-denotes I G er in
         let w : r / 2 ≡ i = row_is I G er in
         record {
           grown = stays S;
-          reference = record { stored = rw w at.0; fits = omega (arith, level-is I G er) };
+          reference = record { stored = rw w at.stored; fits = omega (arith, level-is I G er) };
           denotes = D;
           functions = sym (stored_stays f (store_of s n)
-              (stored-among s n f i (omega arith) at.0
+              (stored-among s n f i at.pos at.stored
               (rw (I.level, ← D) (one-row-alike s level r (i * 2) (w ∙ sym (double_row i))))));
         }
 
     -- No row is found: the function is not among those stored.
-    module _ (none : i ≡ 0) where
+    module _ (N : Absent s n level c d) where
       f_absent : among alike? f (store_of s n) ≡ false
       f_absent =
           not_true (among alike? f (store_of s n))
@@ -240,7 +239,7 @@ module _ {s : List ℕ} {limit n level a b : ℕ} (Q : MakeAsked s limit n level
           met k r R e =
               let same : k ≡ suc m = perfect_depth (denote-perfect s k r) (rw e (halves (denote-perfect s m a) (denote-perfect s m b))) in
               let H = holds F.differ r (subst (λ (x : ℕ). Reference s n x r) same R) (subst (λ (x : ℕ). denote s x r ≡ f) same e) in
-              F.found.absent none (r / 2) H.1 R.stored (rw (F.low, F.high) H.0)
+              N.none (r / 2) H.1 R.stored (rw (F.low, F.high) H.0)
 
       pub make_full : n ≡ limit → MadeFull s s limit n level a b
       make_full full = record { full = full; depends = f_depends F.differ; absent = f_absent; same = refl }
@@ -254,16 +253,19 @@ module _ {s : List ℕ} {limit n level a b : ℕ} (Q : MakeAsked s limit n level
         free = omega (arith, S.room.used)
 
         W : NewRow s n level c d
-        W = make_row F.differ F.low F.high
+        W = make_row F
+
+        pub added_one : {t : List ℕ} → t ≡ after → Store t limit (n + 1)
+        added_one e = rw (e, add-one n) (added-store S free W N.none)
 
         T : Store after limit (suc n)
-        T = added-store S free W (F.found.absent none)
+        T = added-store S free W N.none
 
         K : Kept s after n
-        K = added-kept S free W (F.found.absent none)
+        K = added-kept S free W N.none
 
         I : Is after (suc n) level (edge a a) (edge b a)
-        I = let J = added_is S free W (F.found.absent none) in record { level = J.level; low = J.low ∙ F.low; high = J.high ∙ F.high }
+        I = let J = added_is S free W N.none in record { level = J.level; low = J.low ∙ F.low; high = J.high ∙ F.high }
 
         added-at : {r : ℕ} → r ≡ edge (suc n * 2) a → MadeAt s after limit n level a b r (suc n)
         added-at {r} er =
@@ -275,7 +277,7 @@ module _ {s : List ℕ} {limit n level a b : ℕ} (Q : MakeAsked s limit n level
                 store = T;
                 kept = K;
                 more = omega arith;
-                fresh = λ j above le. let e : j ≡ suc n = omega arith in rw e (added-owner S free W (F.found.absent none));
+                fresh = λ j above le. let e : j ≡ suc n = omega arith in rw e (added-owner S free W N.none);
               };
               reference = record { stored = omega arith; fits = omega arith };
               denotes = D;
@@ -285,5 +287,5 @@ module _ {s : List ℕ} {limit n level a b : ℕ} (Q : MakeAsked s limit n level
                   ∙ sym (new_part f (store_of s n) (f_depends F.differ) f_absent);
             }
 
-        pub make_added : {t : List ℕ} → t ≡ after → {r : ℕ} → r ≡ edge (suc n * 2) a → MadeAt s t limit n level a b r (suc n)
-        make_added et er = rw et (added-at er)
+        pub make_added : {t : List ℕ} → t ≡ after → {r : ℕ} → r ≡ edge ((n + 1) * 2) a → MadeAt s t limit n level a b r (n + 1)
+        make_added et er = rw (et, add-one n) (added-at (rw (add-one n) at er))

@@ -1,11 +1,15 @@
 // The program: compares the drawings `left.tsv` and `right.tsv`, and prints a line for each output or why they are refused.
 #![tactic(auto)]
 
+use compare_model::Lent;
+use report_model::{COMPARE_ROOM, COMPARE_VERTICES, REPORT_ROOM, ROWS_ROOM};
+
 // A byte more than a file may have, so that a longer one is seen to be too long.
 const FILE_ROOM: usize = netlist_model::MAX_BYTES + 1;
 
 const SETTING_ROOM: usize = table::MAX_INPUTS as usize;
 
+// The bytes of the two files stand in arrays, with no heap.
 fn main(rt: HostRuntime) {
     let mut left = [0u8; FILE_ROOM];
     let mut right = [0u8; FILE_ROOM];
@@ -14,29 +18,20 @@ fn main(rt: HostRuntime) {
     print_report(&rt, &left[..left_end], &right[..right_end]);
 }
 
+// The call works in slices that its caller lends: arrays here, with no heap.
 fn print_report(rt: &(impl Print + Eprint), left: &[u8], right: &[u8]) {
-    let mut out = [0u8; report_model::REPORT_ROOM];
-    let mut table = [0u32; load::MAX_TABLE];
-    let mut pairs = [0u32; report_model::COMPARE_ROOM];
-    let mut look = [0u32; report_model::COMPARE_ROOM];
-    let mut diagrams = [0u32; report_model::COMPARE_ROOM];
-    let mut stages = [0u32; report_model::COMPARE_ROOM];
-    let mut rows = [0u32; report_model::ROWS_ROOM];
-    let mut marks = [0u8; report_model::COMPARE_VERTICES];
-    let mut setting = [0u8; SETTING_ROOM];
-    let end = report_pair::report_pair(
-        left,
-        right,
-        &mut out,
-        &mut table,
-        &mut pairs,
-        &mut look,
-        &mut diagrams,
-        &mut stages,
-        &mut rows,
-        &mut marks,
-        &mut setting,
-    );
+    let mut out = [0; REPORT_ROOM];
+    let mut table = [0; load::MAX_TABLE];
+    let mut lent = Lent {
+        pairs: &mut [0; COMPARE_ROOM],
+        look: &mut [0; COMPARE_ROOM],
+        diagrams: &mut [0; COMPARE_ROOM],
+        stages: &mut [0; COMPARE_ROOM],
+        rows: &mut [0; ROWS_ROOM],
+        marks: &mut [0; COMPARE_VERTICES],
+        setting: &mut [0; SETTING_ROOM],
+    };
+    let end = report_pair::report_pair(left, right, &mut out, &mut table, &mut lent);
     print(rt, &out[..end]);
 }
 

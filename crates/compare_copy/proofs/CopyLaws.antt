@@ -13,52 +13,36 @@ use Rattle.text.specs.Decimal.{written}
 use borrow.Author.Tests.{eq-eqb, ne_eqb}
 use borrow.Rule.Slice.PartMut.{put_mid}
 use lib.ListN.{drop, get_or, length, length-append, length-drop, length-map, set, take}
-use lib.Seq.{append_snoc, drop_at, drop-cons, drop-drop, drop-length, get_or_at, length-take-le, set_at, take_all, take_at, take-length, take-suc}
+use lib.Seq.{drop_at, drop-cons, drop-drop, get_or_at, length-take-le, take_all, take_at, take-suc}
 use mathlib.Core.List.{List, [], ◌++◌, ◌∷◌, append_assoc, append-nil, map}
 use mathlib.Core.Logic.{◌≢◌}
 use mathlib.Core.Path.{◌∙◌, ◌≡◌, ap, ap₂, refl, subst, sym}
 use native.Mathlib.Numerals.{add-one}
 use native.Mathlib.Omega.{arith}
 
--- A word stored right after the front becomes its last.
-pub front-more : (xs old : List ℕ) (i a : ℕ) → length xs ≡ i → i < length old → set (xs ++ drop i old) i a ≡ (xs ++ (a ∷ [])) ++ drop (i + 1) old
-front-more xs old i a e h =
-    ap (λ (l : List ℕ). set (xs ++ l) i a) (drop-cons old i 0 h)
-    ∙ set_at xs (get_or old i 0) (drop (suc i) old) a i e
-    ∙ sym (append_snoc xs a (drop (suc i) old))
-    ∙ ap (λ (n : ℕ). (xs ++ (a ∷ [])) ++ drop n old) (sym (add-one i))
-
 -- The word right after the front is the old one.
 pub front-next : (xs old : List ℕ) (i : ℕ) → length xs ≡ i → i < length old → get_or (xs ++ drop i old) i 0 ≡ get_or old i 0
 front-next xs old i e h =
     ap (λ (l : List ℕ). get_or (xs ++ l) i 0) (drop-cons old i 0 h) ∙ get_or_at xs (get_or old i 0) (drop (suc i) old) 0 i e
 
-take_more : (i : ℕ) (xs : List ℕ) → i < length xs → take i xs ++ (get_or xs i 0 ∷ []) ≡ take (i + 1) xs
+-- The front with one word more.
+pub take_more : (i : ℕ) (xs : List ℕ) → i < length xs → take i xs ++ (get_or xs i 0 ∷ []) ≡ take (i + 1) xs
 take_more i xs h = rw add-one (sym (take-suc xs i 0 h))
 
-map_more : (f : ℕ → ℕ) (xs : List ℕ) (a : ℕ) → map f (xs ++ (a ∷ [])) ≡ map f xs ++ (f a ∷ [])
+-- A map of one word more has one more word.
+pub map_more : (f : ℕ → ℕ) (xs : List ℕ) (a : ℕ) → map f (xs ++ (a ∷ [])) ≡ map f xs ++ (f a ∷ [])
 map_more f [] a = refl
 map_more f (x ∷ xs) a = ap (λ (l : List ℕ). f x ∷ l) (map_more f xs a)
 
 -- The words below i are replaced by what a map makes of them.
 module _ (f : ℕ → ℕ) (i : ℕ) (xs words : List ℕ) (done : words ≡ map f (take i xs) ++ drop i xs) where
-  length_mapped : i < length xs → length (map f (take i xs)) ≡ i
+  -- There are i of them.
+  pub length_mapped : i < length xs → length (map f (take i xs)) ≡ i
   length_mapped h = length-map (take i xs) f ∙ length-take-le i xs (omega arith)
 
   -- The next word is the old one.
   pub mapped_next : i < length xs → get_or words i 0 ≡ get_or xs i 0
   mapped_next h = ap (λ (l : List ℕ). get_or l i 0) done ∙ front-next (map f (take i xs)) xs i (length_mapped h) h
-
-  -- One more is replaced.
-  pub mapped-more : i < length xs → set words i (f (get_or words i 0)) ≡ map f (take (i + 1) xs) ++ drop (i + 1) xs
-  mapped-more h =
-      ap₂ (λ (l : List ℕ) (x : ℕ). set l i (f x)) done (mapped_next h)
-      ∙ front-more (map f (take i xs)) xs i (f (get_or xs i 0)) (length_mapped h) h
-      ∙ ap (λ (l : List ℕ). l ++ drop (i + 1) xs) (sym (map_more f (take i xs) (get_or xs i 0)) ∙ ap (map f) (take_more i xs h))
-
-  -- All are.
-  pub mapped-all : i ≡ length xs → words ≡ map f xs
-  mapped-all e = done ∙ rw (e, take-length xs, drop-length xs) (append-nil (map f xs))
 
 -- Written from place 0 on is written over the front.
 written-front : (old xs : List ℕ) → written old 0 xs ≡ over_front xs old
@@ -67,14 +51,12 @@ written-front old xs = let z : 0 + length xs ≡ length xs = omega arith in rw z
 
 -- After the first vertices' own words, the rows.
 pub rows_copied : (table old between new : List ℕ) → 2 * (1 + inputs_of table) ≤ length old → between ≡ written old 0 (own_words 0 (1 + inputs_of table))
-    → new ≡ written between (2 * (1 + inputs_of table)) (take (3 + 2 * made_of table - 3) (drop 3 table))
+    → new ≡ written between (2 * (1 + inputs_of table)) (take (2 * made_of table) (drop 3 table))
     → new ≡ over_front (graph_words table) old
 unfolding graph_words
 rows_copied table old between new room e f =
-    let n : 3 + 2 * made_of table - 3 ≡ 2 * made_of table = omega arith in
     let l : 2 * (1 + inputs_of table) ≡ 0 + length own = omega (arith, length_own 0 (1 + inputs_of table)) in
     f
-    ∙ ap (λ (k : ℕ). written between (2 * (1 + inputs_of table)) (take k (drop 3 table))) n
     ∙ ap₂ (λ (ws : List ℕ) (at : ℕ). written ws at rows) e l
     ∙ written_append old 0 own (omega (arith, l)) rows
     ∙ written-front old (own ++ rows)

@@ -1,50 +1,33 @@
 // The refusals of compare: 10 to 15.
 #![tactic(auto)]
 
-ghost use Rattle.std.specs.Prelude.{◌<◌, ◌^◌, ◌++◌, ◌≡◌};
+ghost use Rattle.refusal.specs.Number.{refusal_number};
+ghost use Rattle.std.specs.Prelude.{◌<◌, ◌^◌, ◌++◌, ◌≡◌, IfOk};
 ghost use Rattle.compare_model.specs.Compare.{beyond?, call_tests, limits_of, outside?, short_slice?};
-ghost use Rattle.compare_refusal.specs.code.Room.{room_of};
-ghost use Rattle.table.specs.Accepted.{WellFormed};
+ghost use Rattle.compare_model.specs.Lent.{room_of};
 ghost use Rattle.table.specs.Refusals.{first_refusal};
 ghost use Rattle.table.specs.Table.{table_tests};
 
-use compare_model::{Limits, NEXT_VERTICES};
+use compare_model::{Lengths, Limits, NEXT_VERTICES};
+use refusal::Refusal;
+use table::Table;
 
 pub const MAX_ROWS: u64 = 32768;
 
 pub const MAX_STEPS: u64 = 4294967295;
 
-// The lengths of the slices that are lent beside the table.
-#[derive(Clone, Copy)]
-pub struct Lengths {
-    pub pairs: usize,
-    pub look: usize,
-    pub diagrams: usize,
-    pub stages: usize,
-    pub rows: usize,
-    pub marks: usize,
-    pub setting: usize,
-}
-
 fn is_outside(most: u64, n: u64) -> bool
     ensures { result ≡ outside? most n }
 {
-    if n < 1 {
-        return true;
-    }
-    most < n
+    !(1..=most).contains(&n)
 }
 
 fn is_beyond(limits: Limits) -> bool
     ensures { result ≡ beyond? (limits_of limits) }
 {
-    if is_outside(MAX_ROWS, limits.size as u64) {
-        return true;
-    }
-    if is_outside(MAX_ROWS, limits.rows as u64) {
-        return true;
-    }
-    is_outside(MAX_STEPS, limits.steps)
+    is_outside(MAX_ROWS, limits.size as u64)
+        || is_outside(MAX_ROWS, limits.rows as u64)
+        || is_outside(MAX_STEPS, limits.steps)
 }
 
 // Whether a working slice or the marks are short for some vertices and a row limit.
@@ -53,51 +36,50 @@ pub fn is_short(vertices: usize, rows: u32, lengths: Lengths) -> bool
     ensures { result ≡ short_slice? vertices rows (room_of lengths) lengths.marks }
 {
     let words = 2 * vertices;
-    if lengths.pairs < words {
-        return true;
-    }
-    if lengths.look < words {
-        return true;
-    }
-    if lengths.diagrams < words {
-        return true;
-    }
-    if lengths.stages < words {
-        return true;
-    }
-    if lengths.rows < 4 * rows as usize {
-        return true;
-    }
-    lengths.marks < vertices
+    lengths.pairs < words
+        || lengths.look < words
+        || lengths.diagrams < words
+        || lengths.stages < words
+        || lengths.rows < 4 * rows as usize
+        || lengths.marks < vertices
 }
 
-// The first of the refusals 12 to 15 that applies, or 0.
-fn call_refusal(table: &[u32], output: u32, limits: Limits, lengths: Lengths) -> u32
-    requires { WellFormed table.now }
-    ensures { result ≡ first_refusal 0 (call_tests table.now output (limits_of limits) (room_of lengths) lengths.marks lengths.setting) }
+// The first of the refusals 12 to 15 that applies.
+#[tactic(auto, unfolding(table::specs::Refusals::first_refusal))]
+fn check_call(
+    table: &Table<'_>,
+    output: u32,
+    limits: Limits,
+    lengths: Lengths,
+) -> Result<(), Refusal>
+    ensures { refusal_number result ≡ first_refusal 0 (call_tests table.now.words.now output (limits_of limits) (room_of lengths) lengths.marks lengths.setting) }
 {
-    if table::outputs(table) <= output {
-        return 12;
+    if table.outputs() <= output {
+        return Err(Refusal::UnknownOutput);
     }
     if is_beyond(limits) {
-        return 13;
+        return Err(Refusal::Limits);
     }
-    if is_short(table::vertices(table) + NEXT_VERTICES, limits.rows, lengths) {
-        return 14;
+    if is_short(table.vertices() + NEXT_VERTICES, limits.rows, lengths) {
+        return Err(Refusal::ShortSlice);
     }
-    if lengths.setting < table::inputs(table) as usize {
-        return 15;
+    if lengths.setting < table.inputs() as usize {
+        return Err(Refusal::ShortSetting);
     }
-    0
+    Ok(())
 }
 
-// The first refusal that applies, or 0.
-pub fn first_refusal(table: &[u32], output: u32, limits: Limits, lengths: Lengths) -> u32
-    ensures { result ≡ first_refusal 0 (table_tests table.now ++ call_tests table.now output (limits_of limits) (room_of lengths) lengths.marks lengths.setting) }
+// Some words as a table that can be compared, or the first refusal that applies.
+pub fn check(
+    words: &[u32],
+    output: u32,
+    limits: Limits,
+    lengths: Lengths,
+) -> Result<Table<'_>, Refusal>
+    ensures refusal { refusal_number result ≡ first_refusal 0 (table_tests words.now ++ call_tests words.now output (limits_of limits) (room_of lengths) lengths.marks lengths.setting) }
+    ensures table { IfOk result (λ t. t.words.now ≡ words.now) }
 {
-    let number = table_refusal::refusal(table);
-    if number != 0 {
-        return number;
-    }
-    call_refusal(table, output, limits, lengths)
+    let table = table_refusal::check(words)?;
+    check_call(&table, output, limits, lengths)?;
+    Ok(table)
 }

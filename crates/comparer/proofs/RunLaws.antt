@@ -3,9 +3,11 @@ use Prim.Native.Nat.{◌*◌, ◌<◌, ◌≤◌, ℕ}
 use Rattle.bdd.proofs.StoreLaws.{store_length}
 use Rattle.compare_model.proofs.GraphLaws.{count-vertices, fits, length_entry, next-few}
 use Rattle.compare_model.specs.Compare.{answer_to, entry_rows, limits_of, over_front, problem_of, vertex_room}
+use Rattle.compare_model.specs.Lent.{lengths_of, room_of}
 use Rattle.compare_model.specs.Passed.{Enough, LimitsWithin}
+use Rattle.compare_model.specs.declared.Lent.{Lent}
 use Rattle.compare_model.specs.declared.Limits.{Limits}
-use Rattle.comparer.specs.Lent.{given, holding, room_of_lists}
+use Rattle.comparer.specs.Lent.{given, holding}
 use Rattle.comparer.specs.code.Work.{Posed, SweepRan}
 use Rattle.sweep_state.specs.code.Ending.{verdict_of}
 use Rattle.sweep_state.specs.code.Arrays.{arrays}
@@ -59,18 +61,17 @@ module _ (table : List ℕ) (output : ℕ) (limits : Limits) (accepted : Accepte
   has-functions = record { fit = rw (entry-words, task.problem) table_fits; count = count-vertices table output (limits_of limits) ∙ sym task.count }
 
   -- The other slices, long enough.
-  module _ (pairs look diagrams stages rows marks : List ℕ)
-      (room : Enough (vertex_room table) limits.rows (room_of_lists pairs look diagrams stages rows) (length marks)) where
+  module _ (l : Lent) (room : Enough (vertex_room table) limits.rows (room_of (lengths_of l)) (length l.marks.now)) where
     -- As many marks are lent as there are vertices.
-    pub lent-marks : length (take t.count marks) ≡ t.count
-    lent-marks = length-take-le t.count marks (omega (arith, posed-few task, room.marked))
+    pub lent-marks : length (take t.count l.marks.now) ≡ t.count
+    lent-marks = length-take-le t.count l.marks.now (omega (arith, posed-few task, room.marked))
 
     -- What the sweep is lent.
     abbrev pub lent_workspace : Workspace
-    lent_workspace = workspace (take (2 * t.count) lent) (arrays diagrams stages rows (take t.count marks))
+    lent_workspace = workspace (take (2 * t.count) lent) (arrays l.diagrams.now l.stages.now l.rows.now (take t.count l.marks.now))
 
     -- The sweep can be asked.
-    pub asked : SweepAsked t look lent_workspace
+    pub asked : SweepAsked t l.look.now lent_workspace
     asked =
         record {
           functions = functions;
@@ -88,8 +89,8 @@ module _ (table : List ℕ) (output : ℕ) (limits : Limits) (accepted : Accepte
         }
 
     -- The sweep has ended.
-    module _ (setting : List ℕ) (after : Workspace) (e : Ended) (sweeps : Sweeps t lent_workspace after e)
-        (kept : length after.arrays.marks ≡ length (take t.count marks)) where
+    module _ (after : Workspace) (e : Ended) (sweeps : Sweeps t lent_workspace after e)
+        (kept : length after.arrays.marks ≡ length (take t.count l.marks.now)) where
       -- The model's answer.
       abbrev answer : Result
       answer = sweep (problem_of table output (limits_of limits)) (entry_rows table output)
@@ -114,8 +115,8 @@ module _ (table : List ℕ) (output : ℕ) (limits : Limits) (accepted : Accepte
       marks-left = ap (λ (a : Result). a.left.marks) answers.answer ∙ take_all t.count after.arrays.marks (omega (arith, kept, lent-marks))
 
       -- What the end says of the comparison.
-      pub ran : SweepRan (given output limits (holding table pairs look diagrams stages rows marks setting)) (after.pairs ++ drop (2 * t.count) lent) after.arrays.rows
-          (after.arrays.marks ++ drop t.count marks) e
+      pub ran : SweepRan (given output limits (holding table l)) (after.pairs ++ drop (2 * t.count) lent) after.arrays.rows
+          (after.arrays.marks ++ drop t.count l.marks.now) e
       unfolding answer_to
       ran =
           record {

@@ -1,15 +1,11 @@
 -- The slices that compare is lent, and what it promises of them.
-use Rattle.std.specs.Prelude.{ℕ, length, List, ◌≢◌, ◌≡◌}
+use Rattle.std.specs.Prelude.{ℕ, length, List, Result, ◌≢◌, ◌≡◌}
 use Rattle.compare_model.specs.Compare.{CompareRoom, Given, Left, compared, limits_of, refusal_of}
 use Rattle.compare_model.specs.Said.{Said, said_of}
+use Rattle.compare_model.specs.declared.Lent.{Lent}
 use Rattle.compare_model.specs.declared.Limits.{Limits as Asked}
+use Rattle.refusal.specs.declared.Refusal.{Refusal}
 use Rattle.sweep_model.specs.declared.Reply.{Reply}
-use Rattle.std.specs.Borrow.{MutBor}
-use denote.Triple.Both.{Both}
-
--- A lent slice, at entry and at exit.
-abbrev pub Slice : Type 0
-Slice = Both (MutBor (List ℕ)) (MutBor (List ℕ))
 
 -- The lists that the eight slices hold at one moment.
 pub record Slices : Type 0 where
@@ -22,42 +18,29 @@ pub record Slices : Type 0 where
   pub marks : List ℕ
   pub setting : List ℕ
 
-abbrev pub holding : List ℕ → List ℕ → List ℕ → List ℕ → List ℕ → List ℕ → List ℕ → List ℕ → Slices
-holding table pairs look diagrams stages rows marks setting =
+abbrev pub holding : List ℕ → Lent → Slices
+holding table lent =
     record {
       table = table;
-      pairs = pairs;
-      look = look;
-      diagrams = diagrams;
-      stages = stages;
-      rows = rows;
-      marks = marks;
-      setting = setting;
+      pairs = lent.pairs.now;
+      look = lent.look.now;
+      diagrams = lent.diagrams.now;
+      stages = lent.stages.now;
+      rows = lent.rows.now;
+      marks = lent.marks.now;
+      setting = lent.setting.now;
     }
 
--- What they hold at entry and at exit, the table given by what it holds at the two.
-abbrev pub slices_with : List ℕ → List ℕ → Slice → Slice → Slice → Slice → Slice → Slice → Slice → Both Slices Slices
-slices_with before after pairs look diagrams stages rows marks setting =
-    record {
-      entry =
-          holding before pairs.entry.now look.entry.now diagrams.entry.now stages.entry.now rows.entry.now
-          marks.entry.now setting.entry.now;
-      exit =
-          holding after pairs.exit.now look.exit.now diagrams.exit.now stages.exit.now rows.exit.now
-          marks.exit.now setting.exit.now;
-    }
-
--- What eight lent slices hold at entry and at exit.
-abbrev pub slices : Slice → Slice → Slice → Slice → Slice → Slice → Slice → Slice → Both Slices Slices
-slices table = slices_with table.entry.now table.exit.now
-
--- The lengths of the five slices to work in, by the lists that they hold.
-abbrev pub room_of_lists : List ℕ → List ℕ → List ℕ → List ℕ → List ℕ → CompareRoom
-room_of_lists pairs look diagrams stages rows =
-    record { pairs = length pairs; look = length look; diagrams = length diagrams; stages = length stages; rows = length rows }
-
+-- The lengths of the five slices to work in.
 abbrev pub room_in : Slices → CompareRoom
-room_in s = room_of_lists s.pairs s.look s.diagrams s.stages s.rows
+room_in s =
+    record {
+      pairs = length s.pairs;
+      look = length s.look;
+      diagrams = length s.diagrams;
+      stages = length s.stages;
+      rows = length s.rows;
+    }
 
 -- The arguments of compare.
 abbrev pub given : ℕ → Asked → Slices → Given
@@ -84,6 +67,6 @@ pub record Unchanged (before after : Slices) : Type 0 where
   pub rows : after.rows ≡ before.rows
 
 -- What compare gives back and leaves is the comparison of what it is given; a refusal leaves the slices to work in, too. (RULES 8.1, 8.3, 12.1)
-pub record Compared (output : ℕ) (limits : Asked) (s : Both Slices Slices) (reply : Reply) : Type 0 where
-  pub result : left (said_of reply) s.exit.table s.exit.marks s.exit.setting ≡ compared (given output limits s.entry)
-  pub kept : refusal_of (given output limits s.entry) ≢ 0 → Unchanged s.entry s.exit
+pub record Compared (output : ℕ) (limits : Asked) (before after : Slices) (answer : Result Reply Refusal) : Type 0 where
+  pub result : left (said_of answer) after.table after.marks after.setting ≡ compared (given output limits before)
+  pub kept : refusal_of (given output limits before) ≢ 0 → Unchanged before after

@@ -43,7 +43,7 @@ record Tables : Type 0 where
   none_allowed : loaded_table (constrained_file 48) (output_file 49 51) ≡ 1 ∷ 0 ∷ 1 ∷ 2 ∷ 3 ∷ 0 ∷ drop 6 (replicate max_table 0)
 
 tables : Tables
-unfolding due_after below? check_file check_from constraints_in due? finish first_refusal formed? gates_in header? known? limited? more? name_count names_in outputs_in read_by read_netlist twice? digits_from numeral_of fields_record file_lines line_of part_lines name? operation_of record_of unended fold_of first_vertex own_words ask_and ask_gate ask_gates build_file build_pair empty_build folded_or_not found_or_made literals_from counts_differ? first_lacked input_for load_result paired place_of read_result read_second reference_for short_slice? tally_of and_count table_after table_of table_words
+unfolding due_after check_file check_from constraints_in finish first_refusal formed? gates_in header? known? limited? more? name_count names_in outputs_in read_by read_netlist twice? digits_from numeral_of fields_record file_lines line_of part_lines name? operation_of record_of unended fold_of first_vertex own_words ask_and ask_gate ask_gates build_file build_pair empty_build folded_or_not found_or_made literals_from counts_differ? first_lacked input_for load_result paired place_of read_result read_second reference_for short_slice? tally_of and_count table_after table_of table_words
 tables = record { and_or_card = refl; inverse = refl; constants = refl; named = refl; turned = refl; allowed = refl; none_allowed = refl }
 
 -- What a comparison of a pair's first output comes to, by the table that the pair loads to.

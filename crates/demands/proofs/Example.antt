@@ -46,11 +46,11 @@ use native.Mathlib.Omega.{arith}
 
 -- The files, read.
 reads-left : read_netlist First and_file ≡ read (one_gate And)
-unfolding due_after below? check_file check_from constraints_in due? finish first_refusal formed? gates_in header? known? limited? more? name_count names_in outputs_in read_by read_netlist twice? digits_from numeral_of fields_record file_lines line_of part_lines operation_of record_of unended
+unfolding due_after check_file check_from constraints_in finish first_refusal formed? gates_in header? known? limited? more? name_count names_in outputs_in read_by read_netlist twice? digits_from numeral_of fields_record file_lines line_of part_lines operation_of record_of unended
 reads-left = refl
 
 reads-right : read_netlist (Second 1) other_file ≡ read (one_gate Or)
-unfolding due_after below? check_file check_from constraints_in due? finish first_refusal formed? gates_in header? known? limited? more? name_count names_in outputs_in read_by read_netlist twice? digits_from numeral_of fields_record file_lines line_of part_lines operation_of record_of unended
+unfolding due_after check_file check_from constraints_in finish first_refusal formed? gates_in header? known? limited? more? name_count names_in outputs_in read_by read_netlist twice? digits_from numeral_of fields_record file_lines line_of part_lines operation_of record_of unended
 reads-right = refl
 
 -- The second file's inputs are in the first one's order.

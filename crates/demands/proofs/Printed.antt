@@ -19,13 +19,13 @@ use Rattle.netlist_model.specs.Netlist.{Netlist}
 use Rattle.netlist_model.specs.Pairing.{paired}
 use Rattle.reply_line.specs.Line.{line_for}
 use Rattle.report_format.specs.Report.{head_line, refused_line, reply_line}
-use Rattle.report_format.specs.declared.Vertex.TheVariants.{None}
 use Rattle.report_format.specs.declared.Word.TheVariants as word
 use Rattle.report_model.proofs.ComparisonLaws.{after_next}
 use Rattle.report_model.proofs.ReportLaws.{long-enough, report_loaded}
 use Rattle.report_model.proofs.RoomLaws.{Roomy, never_refused, outputs-next, roomy_next}
 use Rattle.report_model.specs.Report.{after, comparison_line, comparisons, first_of, lines_of, load_room, next, program_limits, reported}
 use Rattle.sweep_model.specs.declared.Cause.TheVariants.{Rows, Size, Steps}
+use Rattle.std.specs.Prelude.{None}
 use Rattle.table.specs.Table.{inputs_of, outputs_of}
 use lib.ListN.{length, length-map, take}
 use lib.Seq.{take-append_seam, take_at}

@@ -1,12 +1,11 @@
 -- From the bytes of two files to the last comparison, by what load and compare promise and no more.
-use Rattle.std.specs.Prelude.{ℕ, List, ◌≡◌}
+use Rattle.std.specs.Prelude.{ℕ, List, Ok, Result, ◌≡◌}
 use Rattle.compare_model.specs.Compare.{refusal_of}
 use Rattle.demands.specs.Complete.{Decided, Suffice}
 use Rattle.demands.specs.Demand3.{Call, Each, Holds, Ran}
 use Rattle.load_model.specs.Load.{LoadRoom, answer_of, load_result, table_loaded}
-use Rattle.load_model.specs.declared.Loaded.TheVariants.{Accepted}
 use Rattle.load_model.specs.declared.Loaded.{Loaded}
-use Rattle.load_model.specs.declared.Tally.{Tally}
+use Rattle.load_model.specs.declared.Refused.{Refused}
 use Rattle.netlist_model.specs.Check.{read, read_netlist}
 use Rattle.netlist_model.specs.Netlist.{Netlist}
 use Rattle.netlist_model.specs.declared.Role.TheVariants.{First, Second}
@@ -22,10 +21,10 @@ pub record Demanded (left right loaded : List ℕ) (calls : List Call) (last : L
       (λ c. refusal_of c.given ≡ 0 → Suffice loaded first second c.given.output c.given.limits → Decided first second c.given.output c.left.reply)
       calls
 
--- The premises are the contract of load, that its result was Accepted, and that each call of the list keeps the contract of compare.
+-- The premises are the contract of load, that its result was no refusal, and that each call of the list keeps the contract of compare.
 abbrev pub FromFiles : Type 0
 FromFiles =
-    (left right old loaded last : List ℕ) (room : LoadRoom) (result : Loaded) (edition : ℕ) (tally : Tally) (calls : List Call)
+    (left right old loaded last : List ℕ) (room : LoadRoom) (result : Result Loaded Refused) (accepted : Loaded) (calls : List Call)
     → answer_of result ≡ load_result left right room → loaded ≡ table_loaded (answer_of result) left right old
-    → result ≡ Accepted edition tally → Ran loaded calls last
+    → result ≡ Ok accepted → Ran loaded calls last
     → Demanded left right loaded calls last

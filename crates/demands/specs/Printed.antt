@@ -1,6 +1,6 @@
 -- What the program prints of two files whose load is accepted: the head line, and of each output in rising number a line that is true of
 -- the files. (RULES 11.2, 11.3)
-use Rattle.std.specs.Prelude.{suc, ℕ, length, take, false, List, [], ◌++◌, ◌∷◌, ◌≡◌}
+use Rattle.std.specs.Prelude.{suc, ℕ, length, take, None, false, List, [], ◌++◌, ◌∷◌, ◌≡◌}
 use Rattle.compare_model.specs.Compare.{setting_bytes}
 use Rattle.compare_model.specs.Said.{undecided_by}
 use Rattle.demands.specs.Claims.{Agree, Separated}
@@ -13,7 +13,6 @@ use Rattle.netlist_model.specs.Pairing.{paired}
 use Rattle.netlist_model.specs.declared.Role.TheVariants.{First, Second}
 use Rattle.reply_line.specs.Line.{line_for}
 use Rattle.report_format.specs.Report.{head_line, refused_line, reply_line}
-use Rattle.report_format.specs.declared.Vertex.TheVariants.{None}
 use Rattle.report_format.specs.declared.Word.TheVariants.{Different, Equal}
 use Rattle.report_model.specs.Report.{Lent, Report, load_room, program_limits, report_of, short?}
 use Rattle.sweep_model.specs.declared.Cause.{Cause}

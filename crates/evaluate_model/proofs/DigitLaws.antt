@@ -1,15 +1,14 @@
 -- The bytes of a setting and their digits.
+use Rattle.std.proofs.lemmas.Grind.{common_steps}
 use Prim.Native.Nat.{◌+◌, ◌-◌, ◌<◌, ◌≤◌, suc, zero, ℕ}
 use Rattle.evaluate_model.specs.Evaluate.{all_digits?, bit, digit?, digit_one, digit_zero, digits_of}
-use Rattle.truth.proofs.Booleans.{and_left, and_right, or_cases}
-use borrow.Author.Tests.{eqb-true}
+use Rattle.truth.proofs.Booleans.{and_left, and_right}
 use lib.Dec.{eqb}
-use lib.ListN.{drop, drop_of_length-le, get_or, length, set, take}
-use lib.Seq.{drop-cons, take-suc-set}
+use lib.ListN.{drop, get_or, length, set, take}
+use lib.Seq.{drop-cons}
 use mathlib.Core.Bool.{◌&&◌, true}
-use mathlib.Core.List.{List, [], ◌++◌, ◌∷◌, append_assoc, append-nil, map}
-use mathlib.Core.Logic.{⊎_elim}
-use mathlib.Core.Path.{◌≡◌, refl}
+use mathlib.Core.List.{List, [], ◌++◌, ◌∷◌, map}
+use mathlib.Core.Path.{◌≡◌}
 use native.Mathlib.Numerals.{add-one}
 use native.Mathlib.Omega.{arith}
 
@@ -25,11 +24,7 @@ pub record Digit (b : ℕ) : Type 0 where
 
 pub digit : (b : ℕ) → digit? b ≡ true → Digit b
 unfolding digit?
-digit b h =
-    ⊎_elim
-    (λ e. let z : b ≡ 48 = eqb-true b 48 e in record { at_least = omega arith; number = rw z refl })
-    (λ e. let z : b ≡ 49 = eqb-true b 49 e in record { at_least = omega arith; number = rw z refl })
-    (or_cases (eqb b digit_zero) (eqb b digit_one) h)
+digit b h = grind (arith, common_steps)
 
 pub digit_at : (bs : List ℕ) (i : ℕ) → all_digits? bs ≡ true → i < length bs → Digit (get_or bs i 0)
 unfolding all_digits?
@@ -40,12 +35,9 @@ digit_at (b ∷ bs) (suc i) h l = digit_at bs i (and_right (digit? b) (all_digit
 -- One more digit: its number is written after the numbers before it, and the digits after it are left.
 pub digits_step : (vs bs : List ℕ) (i x : ℕ) → i + 1 < length vs → i < length bs → x ≡ bit (eqb (get_or bs i 0) digit_one)
     → take (i + 1) vs ++ map bit (digits_of (drop i bs)) ≡ take (i + 1 + 1) (set vs (i + 1) x) ++ map bit (digits_of (drop (i + 1) bs))
-digits_step vs bs i x lv lb e =
-    rw (drop-cons bs i 0 lb, add-one (i + 1), take-suc-set vs (i + 1) x lv, e, append_assoc, add-one i) refl
+digits_step vs bs i x lv lb e = grind (arith, common_steps)
 
 -- No digit is left: the numbers are those written.
 pub digits_end : (vs bs : List ℕ) (i : ℕ) → length bs ≤ i → i ≤ length bs
     → take (i + 1) vs ++ map bit (digits_of (drop i bs)) ≡ take (1 + length bs) vs
-digits_end vs bs i l k =
-    let e : i + 1 ≡ 1 + length bs = omega arith in
-    rw (drop_of_length-le bs l, append-nil, e) refl
+digits_end vs bs i l k = grind (arith, common_steps)

@@ -1,4 +1,5 @@
 -- Demand 1 for evaluate: a call that keeps the rules is not refused, and no other is answered.
+use Rattle.std.proofs.lemmas.Grind.{common_steps}
 use Prim.Native.Nat.{◌<◌, suc, zero, ℕ}
 use Rattle.evaluate_model.proofs.ReadyLaws.{ready, value-answers}
 use Rattle.evaluate_model.specs.Evaluable.{Evaluable}
@@ -7,19 +8,19 @@ use Rattle.table.proofs.FitsLaws.{fits-passes, passed-fits}
 use Rattle.table.proofs.RefusalLaws.{first-passed, table-passed}
 use Rattle.table.specs.Refusals.{first_refusal}
 use Rattle.table.specs.Table.{inputs_of, outputs_of, table_tests, vertices_of}
-use Rattle.truth.proofs.Booleans.{and_left, and_right, or_cases, or_left, or_right}
-use borrow.Author.Tests.{eq-eqb, eqb-true, le-ltb, lt-leb}
+use Rattle.truth.proofs.Booleans.{and_left, and_right}
+use borrow.Author.Tests.{eq-eqb, eqb-true, le-ltb}
 use lib.Dec.{eqb}
 use lib.ListN.{get_or, length}
 use mathlib.Core.Bool.{Bool, ◌||◌, cond, false, true}
 use mathlib.Core.List.{List, [], ◌∷◌}
-use mathlib.Core.Logic.{◌⊎◌, inl, inr, ⊎_elim}
+use mathlib.Core.Logic.{◌⊎◌}
 use mathlib.Core.Path.{◌∙◌, ◌≡◌, refl, sym}
 use native.Mathlib.Omega.{arith}
 
 -- One of two numbers, tested.
 either : (n a b : ℕ) → (n ≡ a) ⊎ (n ≡ b) → eqb n a || eqb n b ≡ true
-either n a b h = ⊎_elim (λ e. or_left (eqb n a) (eqb n b) (eq-eqb n a e)) (λ e. or_right (eqb n a) (eqb n b) (eq-eqb n b e)) h
+either n a b h = grind (arith, common_steps)
 
 -- Bytes 48 and 49 are digits.
 digits-tested : (bs : List ℕ) → ((i : ℕ) → i < length bs → (get_or bs i 0 ≡ 48) ⊎ (get_or bs i 0 ≡ 49)) → all_digits? bs ≡ true
@@ -31,7 +32,7 @@ module _ {words : List ℕ} {side output : ℕ} {setting : List ℕ} {room : ℕ
   -- Its side and output are known.
   known : unknown? side output (outputs_of words) ≡ false
   unfolding unknown? side?
-  known = rw (either side 1 2 h.side-known) (lt-leb (outputs_of words) output h.output-known)
+  known = grind (arith, common_steps)
 
   -- No refusal applies.
   passes : first_refusal 0 (evaluate_tests words side output setting room) ≡ 0
@@ -51,7 +52,7 @@ module _ {words : List ℕ} {side output : ℕ} {setting : List ℕ} {room : ℕ
 
 -- A test for one of two numbers, passed.
 one_of : (n a b : ℕ) → eqb n a || eqb n b ≡ true → (n ≡ a) ⊎ (n ≡ b)
-one_of n a b h = ⊎_elim (λ e. inl (eqb-true n a e)) (λ e. inr (eqb-true n b e)) (or_cases (eqb n a) (eqb n b) h)
+one_of n a b h = grind (arith, common_steps)
 
 digits-passed : (bs : List ℕ) → all_digits? bs ≡ true → (i : ℕ) → i < length bs → (get_or bs i 0 ≡ 48) ⊎ (get_or bs i 0 ≡ 49)
 unfolding all_digits? digit?

@@ -1,4 +1,5 @@
 -- Values as the numbers 0 and 1 against truth values.
+use Rattle.std.proofs.lemmas.Grind.{common_steps}
 use Prim.Native.Nat.{◌*◌, ◌+◌, ◌-◌, ◌<◌, ◌≤◌, suc, zero, ℕ}
 use Rattle.aig.proofs.LiteralLaws.{vertex-below}
 use Rattle.aig.proofs.ValuesLaws.{value-good}
@@ -16,8 +17,6 @@ use mathlib.Core.Bool.{Bool, ◌&&◌, false, not, true}
 use mathlib.Core.List.{List, map}
 use mathlib.Core.Path.{◌∙◌, ◌≡◌, ap, refl, subst, sym}
 use native.Mathlib.Decide.{dec_lt}
-use native.Mathlib.Nat.{mul_comm, one-mul, zero-mul}
-use native.Mathlib.Numerals.{add-one}
 use native.Mathlib.Omega.{arith}
 
 -- A number at most 1 is 0 or 1.
@@ -28,18 +27,7 @@ number-cases P p q (suc (suc x)) h = absurd (omega arith)
 
 -- The numbers 0 and 1 obey the laws of folding.
 pub numbers : Algebra (λ x. x ≤ 1) number_invert ◌*◌ 0
-numbers =
-    record {
-      good_false = omega arith;
-      good-invert = λ x g. omega arith;
-      good-both = λ x y g h. number-cases (λ x. x * y ≤ 1) (omega (arith, zero-mul y)) (omega (arith, one-mul y)) x g;
-      invert-invert = λ x g. omega arith;
-      both_comm = λ x y g h. mul_comm x y;
-      both-self = λ x g. number-cases (λ x. x * x ≡ x) refl refl x g;
-      both-inverse = λ x g. number-cases (λ x. x * (1 - x) ≡ 0) refl refl x g;
-      both_false = λ x g. zero-mul x;
-      both_true = λ x g. one-mul x;
-    }
+numbers = grind (arith, common_steps)
 
 -- A truth value as a number: inversion is 1 - x, the AND is the product.
 pub bit_numbers : Homomorphism not ◌&&◌ false number_invert ◌*◌ 0 bit
@@ -87,14 +75,16 @@ literal-taken n vs r h = rw (get_or-take n vs (vertex_of r) 0 (vertex-below r n 
 
 -- So is its vertex's value, which is 0 or 1 where theirs are.
 pub vertex-bit : (n : ℕ) (vs : List ℕ) (r : ℕ) → r < 2 * n → Bits (take n vs) → get_or vs (vertex_of r) 0 ≤ 1
-vertex-bit n vs r h good = rw (get_or-take n vs (vertex_of r) 0 (vertex-below r n h)) at (good (vertex_of r))
+vertex-bit n vs r h good = grind (arith, common_steps)
 
--- One more row: its value is written at its vertex, and the rows after it are left.
-pub values_step : (vs ws : List ℕ) (v n i x : ℕ) → v < length vs → i < n → x ≡ number_row (take v vs) (row_at ws (3 + 2 * i))
-    → number_values (take v vs) (pairs (n - i) (drop (3 + 2 * i) ws))
-    ≡ number_values (take (v + 1) (set vs v x)) (pairs (n - (i + 1)) (drop (3 + 2 * (i + 1)) ws))
+-- One more row, the first being that of vertex v: its value is written at its vertex, and the rows after it are left.
+pub values_step : (vs ws : List ℕ) (v n i x : ℕ) → v + i < length vs → i < n → x ≡ number_row (take (v + i) vs) (row_at ws (3 + 2 * i))
+    → number_values (take (v + i) vs) (pairs (n - i) (drop (3 + 2 * i) ws))
+    ≡ number_values (take (v + (i + 1)) (set vs (v + i) x)) (pairs (n - (i + 1)) (drop (3 + 2 * (i + 1)) ws))
 unfolding vertex_values
-values_step vs ws v n i x lv li e = rw (pairs-left 3 n i ws li, add-one v, take-suc-set vs v x lv, e) refl
+values_step vs ws v n i x lv li e =
+    let next : v + (i + 1) ≡ suc (v + i) = omega arith in
+    rw (pairs-left 3 n i ws li, next, take-suc-set vs (v + i) x lv, e) refl
 
 -- No row is left: the values are those written.
 pub values_end : (vs ws : List ℕ) (v n i : ℕ) → n ≤ i → number_values (take v vs) (pairs (n - i) (drop (3 + 2 * i) ws)) ≡ take v vs
@@ -109,6 +99,4 @@ pub record Read (n : ℕ) (vs : List ℕ) (r x : ℕ) : Type 0 where
   pub bound : x ≤ 1
 
 pub read : (n : ℕ) (vs : List ℕ) (r x : ℕ) → r < 2 * n → Bits (take n vs) → x ≡ number_literal vs r → Read n vs r x
-read n vs r x h good e =
-    let v = e ∙ sym (literal-taken n vs r h) in
-    record { value = v; bound = rw v (literal-bit (take n vs) r good) }
+read n vs r x h good e = grind (arith, common_steps)

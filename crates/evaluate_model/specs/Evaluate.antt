@@ -1,7 +1,7 @@
 -- The evaluator: "Evaluating one side's output on a setting gives 0 or 1, its value there." (RULES 10.2)
-use Rattle.std.specs.Prelude.{◌<◌, ◌≤◌, ℕ, eqb, leb, ltb, length, Bool, ◌&&◌, ◌||◌, cond, not, true, List, [], ◌++◌, ◌∷◌, map, ◌≡◌}
-use Rattle.evaluate_model.specs.declared.Evaluated.TheVariants.{Refused, Value}
-use Rattle.evaluate_model.specs.declared.Evaluated.{Evaluated}
+use Rattle.std.specs.Prelude.{◌<◌, ◌≤◌, ℕ, eqb, leb, ltb, length, Bool, ◌&&◌, ◌||◌, cond, not, true, List, [], ◌++◌, ◌∷◌, map, ◌≡◌, Result, Ok, Err}
+use Rattle.refusal.specs.Number.{number_of}
+use Rattle.refusal.specs.declared.Refusal.{Refusal}
 use Rattle.table.specs.Accepted.{Accepted}
 use Rattle.table.specs.Refusals.{Test, first_refusal}
 use Rattle.table.specs.Table.{graph_of, inputs_of, output_value, outputs_of, table_tests, vertices_of}
@@ -67,9 +67,9 @@ pub data Answer : Type 0 where
   refused : ℕ → Answer
 
 -- The rules' value or number for each case of the result. (RULES 8.1, 10.2)
-abbrev pub answer_of : Evaluated → Answer
-answer_of (Value v) = valued v
-answer_of (Refused n) = refused n
+abbrev pub answer_of : Result ℕ Refusal → Answer
+answer_of (Ok v) = valued v
+answer_of (Err refusal) = refused (number_of refusal)
 
 -- "gives 0 or 1": a truth value as a number. (RULES 10.2)
 abbrev pub bit : Bool → ℕ

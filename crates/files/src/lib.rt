@@ -15,28 +15,27 @@ pub fn read_file(files: &impl Files, path: &[u8], bytes: &mut [u8]) -> usize
     ensures in_bounds { result ≤ length bytes.new }
     ensures front { result ≡ length (take result bytes.new) }
 {
-    let Ok(mut file) = open_read(files, path) else {
-        return 0;
-    };
-    let Ok(end) = read_full(&mut file, bytes) else {
-        return 0;
-    };
-    let has_failed = fails_to_read(&mut file);
-    if has_failed {
-        return 0;
-    }
-    end
+    read_front(files, path, bytes).unwrap_or(0)
+}
+
+// Reads the front of a file, and then a byte more, so that a failure after the front is found. At the end of a file none is found.
+fn read_front(files: &impl Files, path: &[u8], bytes: &mut [u8]) -> io::Result<usize>
+    ensures { ReadsAtMost result bytes.new }
+{
+    let mut file = open_read(files, path)?;
+    let end = read_full(&mut file, bytes)?;
+    file.read(&mut [0u8; 1])?;
+    Ok(end)
 }
 
 // A file's name is text. Bytes that are not text name no file.
 fn open_read<R: Files>(files: &R, path: &[u8]) -> io::Result<R::File> {
-    match from_utf8(path) {
-        Ok(name) => File::open(files, name),
-        Err(_) => Err(io::Error::from(ErrorKind::InvalidInput)),
-    }
+    let name = from_utf8(path).map_err(|_| io::Error::from(ErrorKind::InvalidInput))?;
+    File::open(files, name)
 }
 
 // Reads until `bytes` is full or the file ends, and gives back how many bytes were read.
+// std's `read_exact` gives no count where the file ends early, and its `read_to_end` allocates.
 fn read_full(file: &mut impl Read, bytes: &mut [u8]) -> io::Result<usize>
     ensures { ReadsAtMost result bytes.new }
 {
@@ -49,10 +48,4 @@ fn read_full(file: &mut impl Read, bytes: &mut [u8]) -> io::Result<usize>
         done += n;
     }
     Ok(done)
-}
-
-// Whether a read of what follows fails. At the end of a file none does.
-fn fails_to_read(file: &mut impl Read) -> bool {
-    let mut next = [0u8; 1];
-    file.read(&mut next).is_err()
 }

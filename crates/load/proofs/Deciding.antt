@@ -1,21 +1,20 @@
 -- What the decision says of load's result: the same refusal, or that all the tests are passed.
 use Prim.Native.Nat.{◌*◌, ◌+◌, ◌≤◌, ℕ}
 use Rattle.load_decision.proofs.Checking.{checked-reads, checked-unread, editions_same, left-reads, right-reads}
-use Rattle.load_decision.specs.code.Decision.{Checks, checked_file, decision, pair_decision, read_decision, second_decision}
-use Rattle.load_decision.specs.declared.Decision.TheVariants.{Go, Refused}
-use Rattle.load_decision.specs.declared.Decision.{Decision}
+use Rattle.load_decision.specs.code.Decision.{Checked, Checks, Decision, checked_file, decision, go, pair_decision, read_decision, rejected, second_decision, stopped, summed}
 use Rattle.load_model.specs.Load.{LoadRoom, accepted, counts_differ?, load_result, max_table, max_vertices, pair_tests, read_first, read_result, read_second, refused, short_slice?, table_after, table_loaded, table_of, tally_of}
 use Rattle.load_model.specs.declared.Tally.{Tally}
-use Rattle.load_pair.specs.code.Pair.{Agreed, Enough, second_of}
+use Rattle.load_model.specs.Loadable.{Enough}
+use Rattle.load_pair.specs.code.Pair.{Agreed, second_of}
 use Rattle.netlist_model.proofs.NameLaws.{none-lacked}
-use Rattle.netlist_model.proofs.ReadLaws.{holds-front}
-use Rattle.netlist_model.specs.Check.{Read, read_netlist, summary_counts}
-use Rattle.netlist_model.specs.Limits.{max_bytes}
+use Rattle.netlist_model.proofs.ReadLaws.{holds-edition, holds-front}
+use Rattle.netlist_model.proofs.StepLaws.{edition-kept}
+use Rattle.netlist_model.specs.Netlist.{Netlist}
+use Rattle.netlist_model.specs.Check.{Counts, Read, read_netlist, summary_counts}
+use Rattle.netlist_model.specs.Limits.{max_bytes, number_of_edition}
 use Rattle.netlist_model.specs.Names.{first_lacked}
-use Rattle.netlist_model.specs.code.Accepted.{netlist_of}
+use Rattle.netlist_model.specs.code.Accepted.{HoldsNetlist, counts_in, netlist_of}
 use Rattle.netlist_model.specs.code.Passing.{front_names}
-use Rattle.netlist_model.specs.declared.Checked.TheVariants as checked
-use Rattle.netlist_model.specs.declared.Checked.{Checked}
 use Rattle.netlist_model.specs.declared.Role.TheVariants.{First, Second}
 use Rattle.netlist_model.specs.declared.Summary.{Summary}
 use Rattle.table.specs.Limits.{max_ands}
@@ -29,6 +28,10 @@ use mathlib.Core.List.{List}
 use mathlib.Core.Path.{◌∙◌, ◌≡◌, ap, ap₂, refl, subst, sym}
 use native.Mathlib.Omega.{arith}
 
+-- The counts of a summary are those of the netlist that the file holds.
+counts-held : {bytes : List ℕ} {s : Summary} {d : Netlist} → HoldsNetlist bytes s d → summary_counts s ≡ counts_in d
+counts-held {d = d} h = ap summary_counts h.counts ∙ ap (λ (k : ℕ). record (counts_in d) { edition = k }) (edition-kept h.within.edition)
+
 same : (m n : ℕ) → not (eqb m n) ≡ false → m ≡ n
 same m n h = eqb-true m n (not-false (eqb m n) h)
 
@@ -38,34 +41,34 @@ module _ (left right : List ℕ) (room : LoadRoom) where
   pub record Goes (s t : Summary) : Type 0 where
     pub checks : Checks left right s t
     pub agreed : Agreed left right s t
-    pub enough : Enough room.pairs room.look room.literals room.outputs
-    pub table : max_table ≤ room.table
-    pub result : load_result left right room ≡ accepted s.edition (tally_of (netlist_of left s) (second_of left right s t))
+    pub enough : Enough room
+    pub result : load_result left right room ≡ accepted (number_of_edition s.edition) (tally_of (netlist_of left s) (second_of left right s t))
 
   abbrev pub Says : Decision → Type 0
-  Says (Refused k f n) = load_result left right room ≡ refused k f n
-  Says (Go s t) = Goes s t
+  Says (stopped k f n) = load_result left right room ≡ refused k f n
+  Says (go s t) = Goes s t
 
-  not_short : short_slice? room ≡ false → Enough room.pairs room.look room.literals room.outputs
+  not_short : max_table ≤ room.table → short_slice? room ≡ false → Enough room
   unfolding short_slice?
-  not_short h =
+  not_short long h =
       let outputs = neither _ (ltb room.outputs (2 * max_vertices)) h in
       let literals = neither _ (ltb room.literals (2 * max_vertices)) outputs.0 in
       let look = neither (ltb room.pairs (2 * max_vertices)) (ltb room.look (2 * max_vertices)) literals.0 in
       record {
-        for_pairs = ltb-false _ _ look.0;
-        for_look = ltb-false _ _ look.1;
-        for_literals = ltb-false _ _ literals.1;
-        for_outputs = ltb-false _ _ outputs.1;
+        table = long;
+        pairs = ltb-false _ _ look.0;
+        look = ltb-false _ _ look.1;
+        literals = ltb-false _ _ literals.1;
+        outputs = ltb-false _ _ outputs.1;
       }
 
   -- The second file is read by the edition of the first.
-  second-read : (s : Summary) → checked_file First left ≡ checked.Accepted s → {x : Read} → read_netlist (Second s.edition) right ≡ x
+  second-read : (s : Summary) → checked_file First left ≡ summed s → {x : Read} → read_netlist (Second (number_of_edition s.edition)) right ≡ x
       → read_second (read_first left) right ≡ x
   unfolding read_second
   second-read s l e =
       let r = checked-reads First left s l in
-      rw r.reads (ap (λ (n : ℕ). read_netlist (Second n) right) (sym (ap (λ (y : Summary). y.edition) r.holds.counts)) ∙ e)
+      rw r.reads (ap (λ (n : ℕ). read_netlist (Second n) right) (sym (holds-edition r.holds)) ∙ e)
 
   -- Neither file is too long.
   module _ (short-left : ltb max_bytes (length left) ≡ false) (short-right : ltb max_bytes (length right) ≡ false) where
@@ -77,7 +80,7 @@ module _ (left right : List ℕ) (room : LoadRoom) where
     module _ (s t : Summary) (c : Checks left right s t) where
       result-pair :
           load_result left right room
-          ≡ first_refusal (accepted s.edition (tally_of (netlist_of left s) (second_of left right s t)))
+          ≡ first_refusal (accepted (number_of_edition s.edition) (tally_of (netlist_of left s) (second_of left right s t)))
           (pair_tests refused (summary_counts s) (summary_counts t) (first_lacked (front_names s.names left) (front_names t.names right)) room)
       unfolding read_result
       result-pair =
@@ -89,11 +92,11 @@ module _ (left right : List ℕ) (room : LoadRoom) where
           result-read
           ∙ ap₂ (read_result room) l.reads (second-read s c.left-checked r.reads)
           ∙ ap₂
-          (λ (x y : Summary).
+          (λ (x y : Counts).
           first_refusal (accepted x.edition tally)
-          (pair_tests refused (summary_counts x) (summary_counts y) (first_lacked (netlist_of left s).names (netlist_of right t).names) room))
-          (sym l.holds.counts) (sym r.holds.counts)
-          ∙ ap (λ (n : ℕ). first_refusal (accepted s.edition tally) (pair_tests refused (summary_counts s) (summary_counts t) n room)) lacked
+          (pair_tests refused x y (first_lacked (netlist_of left s).names (netlist_of right t).names) room))
+          (sym (counts-held l.holds)) (sym (counts-held r.holds))
+          ∙ ap (λ (n : ℕ). first_refusal (accepted (number_of_edition s.edition) tally) (pair_tests refused (summary_counts s) (summary_counts t) n room)) lacked
 
       pair-says : Says (pair_decision left right s t room)
       unfolding pair_decision first_refusal counts_differ?
@@ -122,25 +125,24 @@ module _ (left right : List ℕ) (room : LoadRoom) where
                   outputs = same s.outputs t.outputs (neither (not (eqb s.inputs t.inputs)) _ one).1;
                   ands = ltb-false _ _ three;
                 };
-            enough = not_short five;
-            table = ltb-false _ _ four;
+            enough = not_short (ltb-false _ _ four) five;
             result = result-pair ∙ rw (one, two, three, four, five) refl;
           }
 
     -- The first file is accepted.
-    second-says : (s : Summary) → checked_file First left ≡ checked.Accepted s → (x : Checked) → checked_file (Second s.edition) right ≡ x
+    second-says : (s : Summary) → checked_file First left ≡ summed s → (x : Checked) → checked_file (Second (number_of_edition s.edition)) right ≡ x
         → Says (second_decision left right s x room)
     unfolding second_decision read_result
-    second-says s l (checked.Accepted t) r = pair-says s t (record { left-checked = l; right-checked = r })
-    second-says s l (checked.Refused k n) r =
+    second-says s l (summed t) r = pair-says s t (record { left-checked = l; right-checked = r })
+    second-says s l (rejected k n) r =
         result-read
-        ∙ ap₂ (read_result room) (checked-reads First left s l).reads (second-read s l (checked-unread (Second s.edition) right k n r))
+        ∙ ap₂ (read_result room) (checked-reads First left s l).reads (second-read s l (checked-unread (Second (number_of_edition s.edition)) right k n r))
 
     -- By what its check gave.
     first_says : (x : Checked) → checked_file First left ≡ x → Says (read_decision left right x room)
     unfolding read_decision read_result
-    first_says (checked.Accepted s) l = second-says s l (checked_file (Second s.edition) right) refl
-    first_says (checked.Refused k n) l =
+    first_says (summed s) l = second-says s l (checked_file (Second (number_of_edition s.edition)) right) refl
+    first_says (rejected k n) l =
         result-read ∙ ap (λ (x : Read). read_result room x (read_second (read_first left) right)) (checked-unread First left k n l)
 
   pub decision-says : Says (decision left right room)
@@ -152,11 +154,11 @@ module _ (left right : List ℕ) (room : LoadRoom) where
 
   module _ {x : Decision} (e : x ≡ decision left right room) where
     -- A refusal that is decided is the result.
-    pub refusal_result : {k f n : ℕ} → x ≡ Refused k f n → load_result left right room ≡ refused k f n
+    pub refusal_result : {k f n : ℕ} → x ≡ stopped k f n → load_result left right room ≡ refused k f n
     refusal_result h = subst Says (sym e ∙ h) decision-says
 
     -- Files that are loaded pass all tests.
-    pub goes_on : {s t : Summary} → x ≡ Go s t → Goes s t
+    pub goes_on : {s t : Summary} → x ≡ go s t → Goes s t
     goes_on h = subst Says (sym e ∙ h) decision-says
 
   -- The table after it.

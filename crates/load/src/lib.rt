@@ -2,43 +2,39 @@
 #![tactic(auto)]
 
 ghost use Rattle.load_model.specs.Load.{answer_of, load_result, table_loaded};
-ghost use Rattle.load_model.specs.Lent.{Kept, room_in, working};
+ghost use Rattle.load_model.specs.Lent.{Kept, SameSlices, lists_in, room_beside};
 ghost use Rattle.std.specs.Prelude.{◌≡◌};
 
-use load_decision::Decision;
-pub use load_model::{Loaded, MAX_TABLE, MAX_VERTICES, Tally, WORKING_ROOM};
+use load_model::Accepted;
+pub use load_model::{
+    Lengths, Loaded, MAX_TABLE, MAX_VERTICES, Refused, Tally, WORKING_ROOM, Working,
+};
+pub use netlist_model::Edition;
+pub use refusal::Refusal;
 
 // Loads two files into the table. The working slices may hold anything; a refusal leaves every lent slice unchanged.
 pub fn load(
     left: &[u8],
     right: &[u8],
     table: &mut [u32],
-    pairs: &mut [u32],
-    look: &mut [u32],
-    literals: &mut [u32],
-    outputs: &mut [u32],
-) -> Loaded
-    ensures result { answer_of result ≡ load_result left.now right.now (room_in table.old pairs.old look.old literals.old outputs.old) }
+    working: &mut Working<'_>,
+) -> Result<Loaded, Refused>
+    ensures result { answer_of result ≡ load_result left.now right.now (room_beside table.old (lists_in working.old)) }
     ensures table { table.new ≡ table_loaded (answer_of result) left.now right.now table.old }
-    ensures kept { Kept (answer_of result) (working pairs.old look.old literals.old outputs.old) (working pairs.new look.new literals.new outputs.new) }
+    ensures kept { Kept (answer_of result) (lists_in working.old) (lists_in working.new) }
+    ensures same { SameSlices working.old working.new }
 {
-    let decision = load_decision::decide(
-        left,
-        right,
-        table.len(),
-        pairs.len(),
-        look.len(),
-        literals.len(),
-        outputs.len(),
-    );
-    match decision {
-        Decision::Refused { number, file, line } => Loaded::Refused { number, file, line },
-        Decision::Go(one, two) => {
-            let tally = load_pair::load_pair(
-                left, right, one, two, table, pairs, look, literals, outputs,
-            );
-            let edition = one.edition;
-            Loaded::Accepted { edition, tally }
-        }
-    }
+    let lengths = working.lengths(table);
+    let (one, two) = load_decision::decide(left, right, lengths)?;
+    let left = Accepted {
+        file: left,
+        summary: one,
+    };
+    let right = Accepted {
+        file: right,
+        summary: two,
+    };
+    let tally = load_pair::load_pair(left, right, table, working);
+    let edition = one.edition;
+    Ok(Loaded { edition, tally })
 }

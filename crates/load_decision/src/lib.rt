@@ -1,122 +1,91 @@
 // Whether two files are loaded: every refusal, decided over the files and the lengths of the lent slices.
 #![tactic(auto)]
 
+ghost use Rattle.load_model.specs.Lent.{room_with};
 ghost use Rattle.load_model.specs.Load.{short_slice?};
-ghost use Rattle.load_decision.specs.code.Decision.{Checks, checked_file, decision, pair_decision, second_decision};
-ghost use Rattle.load_model.specs.Lent.{room_of};
+ghost use Rattle.load_decision.specs.code.Decision.{Checks, FoundIn, checked_file, decided, decision, pair_decision};
 ghost use Rattle.std.specs.Prelude.{◌≡◌};
 
-use netlist::{Checked, Role, Summary, check};
+use load_model::{Accepted, Lengths, Refused};
+use netlist::check::check_file;
+use netlist::{Role, Summary};
+use refusal::Refusal;
 
-// A refusal, or the summaries of two files that are loaded.
-#[derive(Clone, Copy)]
-pub enum Decision {
-    Refused { number: u32, file: u32, line: u32 },
-    Go(Summary, Summary),
-}
-
-pub fn decide(
-    left: &[u8],
-    right: &[u8],
-    table: usize,
-    pairs: usize,
-    look: usize,
-    literals: usize,
-    outputs: usize,
-) -> Decision
-    ensures { result ≡ decision left.now right.now (room_of table pairs look literals outputs) }
+// A refusal, or the summaries of two files that are loaded. Two `Accepted` would need one more clause: that their files are these two.
+pub fn decide(left: &[u8], right: &[u8], lengths: Lengths) -> Result<(Summary, Summary), Refused>
+    ensures { decided result ≡ decision left.now right.now (room_with lengths) }
 {
     if netlist::MAX_BYTES < left.len() {
-        return refused(1, 1, 0);
+        return Err(refused(Refusal::FileTooLong, 1, 0));
     }
     if netlist::MAX_BYTES < right.len() {
-        return refused(1, 2, 0);
+        return Err(refused(Refusal::FileTooLong, 2, 0));
     }
-    match check::check_file(left, Role::First) {
-        Checked::Refused { number, line } => refused(number, 1, line),
-        Checked::Accepted(one) => {
-            decide_second(left, right, one, table, pairs, look, literals, outputs)
-        }
+    let one = check_in(left, Role::First, 1)?;
+    let two = check_in(right, Role::Second(u32::from(one.edition)), 2)?;
+    let left = Accepted {
+        file: left,
+        summary: one,
+    };
+    let right = Accepted {
+        file: right,
+        summary: two,
+    };
+    decide_pair(left, right, lengths)
+}
+
+fn refused(refusal: Refusal, file: u32, line: u32) -> Refused
+    ensures { result ≡ record { refusal = refusal; file = file; line = line } }
+{
+    Refused {
+        refusal,
+        file,
+        line,
     }
 }
 
-fn refused(number: u32, file: u32, line: u32) -> Decision
-    ensures { result ≡ Decision.Refused number file line }
+// Checks the file of a number.
+fn check_in(file: &[u8], role: Role, number: u32) -> Result<Summary, Refused>
+    ensures { FoundIn number result (checked_file role file.now) }
 {
-    Decision::Refused { number, file, line }
-}
-
-// By what the check of the second file says, the first being accepted: a pair is of one edition.
-fn decide_second(
-    left: &[u8],
-    right: &[u8],
-    one: Summary,
-    table: usize,
-    pairs: usize,
-    look: usize,
-    literals: usize,
-    outputs: usize,
-) -> Decision
-    requires { checked_file Role.First left.now ≡ Checked.Accepted one }
-    ensures { result ≡ second_decision left.now right.now one (checked_file (Role.Second one.edition) right.now) (room_of table pairs look literals outputs) }
-{
-    match check::check_file(right, Role::Second(one.edition)) {
-        Checked::Refused { number, line } => refused(number, 2, line),
-        Checked::Accepted(two) => decide_pair(
-            left, right, one, two, table, pairs, look, literals, outputs,
-        ),
-    }
+    check_file(file, role).map_err(|rejected| refused(rejected.refusal, number, rejected.line))
 }
 
 // By the counts and the names of two accepted files and the lengths of the lent slices.
 fn decide_pair(
-    left: &[u8],
-    right: &[u8],
-    one: Summary,
-    two: Summary,
-    table: usize,
-    pairs: usize,
-    look: usize,
-    literals: usize,
-    outputs: usize,
-) -> Decision
-    requires { Checks left.now right.now one two }
-    ensures { result ≡ pair_decision left.now right.now one two (room_of table pairs look literals outputs) }
+    left: Accepted<'_>,
+    right: Accepted<'_>,
+    lengths: Lengths,
+) -> Result<(Summary, Summary), Refused>
+    requires { Checks left.file.now right.file.now left.summary right.summary }
+    ensures { decided result ≡ pair_decision left.entry.file.now right.entry.file.now left.entry.summary right.entry.summary (room_with lengths) }
 {
-    if one.inputs != two.inputs {
-        return refused(7, 2, 1);
+    let one = left.summary;
+    let two = right.summary;
+    if one.inputs != two.inputs || one.outputs != two.outputs {
+        return Err(refused(Refusal::CountsDiffer, 2, 1));
     }
-    if one.outputs != two.outputs {
-        return refused(7, 2, 1);
-    }
-    let lacked = netlist_names::first_lacked(left, right, two.names);
-    if lacked < two.names {
-        return refused(19, 2, 2 + lacked);
+    if let Some(lacked) = netlist_names::first_lacked(left.file, right.file, two.names) {
+        return Err(refused(Refusal::LackedName, 2, 2 + lacked));
     }
     if (table::MAX_ANDS as usize) < one.ands as usize + two.ands as usize {
-        return refused(8, 0, 0);
+        return Err(refused(Refusal::TooManyAnds, 0, 0));
     }
-    if table < load_model::MAX_TABLE {
-        return refused(9, 0, 0);
+    if lengths.table < load_model::MAX_TABLE {
+        return Err(refused(Refusal::ShortTable, 0, 0));
     }
-    if is_short(pairs, look, literals, outputs) {
-        return refused(14, 0, 0);
+    if is_short(lengths) {
+        return Err(refused(Refusal::ShortSlice, 0, 0));
     }
-    Decision::Go(one, two)
+    Ok((one, two))
 }
 
 // Whether a working slice is too short.
-fn is_short(pairs: usize, look: usize, literals: usize, outputs: usize) -> bool
-    ensures { result ≡ short_slice? (room_of 0 pairs look literals outputs) }
+fn is_short(lengths: Lengths) -> bool
+    ensures { result ≡ short_slice? (room_with lengths) }
 {
-    if pairs < load_model::WORKING_ROOM {
-        return true;
-    }
-    if look < load_model::WORKING_ROOM {
-        return true;
-    }
-    if literals < load_model::WORKING_ROOM {
-        return true;
-    }
-    outputs < load_model::WORKING_ROOM
+    lengths.pairs < load_model::WORKING_ROOM
+        || lengths.look < load_model::WORKING_ROOM
+        || lengths.literals < load_model::WORKING_ROOM
+        || lengths.outputs < load_model::WORKING_ROOM
 }

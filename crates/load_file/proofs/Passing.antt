@@ -4,24 +4,24 @@ use Rattle.aig.specs.Literal.{lit, vertex_of}
 use Rattle.aig.specs.declared.literal.Literal.{Literal}
 use Rattle.load_model.specs.Build.{Build, Built, Traced, ask_gate, ask_gates, literal_for, with_gate}
 use Rattle.load_graph.proofs.Asking.{gate-asked}
-use Rattle.load_graph.specs.code.Slices.{traced_of}
-use Rattle.load_graph.specs.declared.Counts.{Counts}
-use Rattle.load_file.specs.code.File.{GateLine, GatesAhead, GatesPassed, OutputLine, OutputsAhead}
+use Rattle.load_graph.specs.declared.Builder.{Builder}
+use Rattle.load_file.specs.code.File.{GateLine, GatesAhead, GatesPassed, OutputLine, OutputsAhead, trace}
 use Rattle.netlist_model.proofs.LineLaws.{RecordAt, record-ahead}
 use Rattle.netlist_model.proofs.ReadLaws.{constraints_in_lem, gates_in_lem, outputs_in_lem}
 use Rattle.netlist_model.specs.Check.{ands_of, constraints_in, gates_in, outputs_in}
 use Rattle.netlist_model.specs.Meaning.{and_count}
 use Rattle.netlist_model.specs.Netlist as netlist
-use Rattle.netlist_model.specs.Netlist.{AllBelow, Downward, gate_record}
+use Rattle.netlist_model.specs.Netlist.{AllBelow, Downward, constraint_record, gate_record, output_record}
 use Rattle.netlist_model.specs.Records.{record_of}
 use Rattle.netlist_model.specs.code.Passing.{file_records}
 use Rattle.netlist_model.specs.declared.Operation.{Operation}
-use Rattle.netlist_model.specs.declared.Record.TheVariants.{Constraint, Gate, Malformed, Output}
+use Rattle.netlist_model.specs.declared.Record.TheVariants.{Gate, Output}
 use Rattle.netlist_model.specs.declared.Record.{Record}
 use Rattle.table.specs.Limits.{max_ands}
 use Rattle.text.specs.Decimal.{written}
 use Rattle.text.specs.Split.{up_to}
 use Rattle.words.proofs.Writing.{Writing, writing_begins, writing-ends, writing-turn}
+use Rattle.std.specs.Prelude.{None, Option, Some}
 use lib.ListN.{drop, length, set, take}
 use lib.Seq.{get_or-take, take-suc-set}
 use mathlib.Core.List.{List, [], ◌++◌, ◌∷◌, map}
@@ -47,7 +47,7 @@ pub record Due (v asked : ℕ) (op : Operation) (p q : ℕ) : Type 0 where
 
 pub gate-due :
     {file : List ℕ} {at v asked : ℕ} → GateLine file at v asked
-    → {op : Operation} {p q : ℕ} → record_of (up_to 10 (drop at file)) ≡ Gate op p q → Due v asked op p q
+    → {op : Operation} {p q : ℕ} → record_of (up_to 10 (drop at file)) ≡ Some (Gate op p q) → Due v asked op p q
 gate-due l {op} {p} {q} e =
     let eo : l.gate.op ≡ op = cc l.this in
     let ep : l.gate.p ≡ p = cc l.this in
@@ -56,9 +56,9 @@ gate-due l {op} {p} {q} e =
 
 -- The gate of a line is asked for, and its literal is stored.
 pub gate-stored :
-    (literals : List ℕ) (v : ℕ) (b : Build) (op : Operation) (p q : ℕ) {x : Built} {lp lq : Literal} {r : Record} → v < length literals
+    (literals : List ℕ) (v : ℕ) (b : Build) (op : Operation) (p q : ℕ) {x : Built} {lp lq : Literal} {r : Option Record} → v < length literals
     → p < 2 * v → q < 2 * v → lp ≡ lit (literal_for literals p) → lq ≡ lit (literal_for literals q) → x ≡ ask_gate b op lp.0 lq.0
-    → r ≡ Gate op p q
+    → r ≡ Some (Gate op p q)
     → record { literals = take (v + 1) (set literals v x.literal); build = x.build } ≡ ask_gates (record { literals = take v literals; build = b }) (gates_in (r ∷ []))
 unfolding ask_gates gates_in
 gate-stored literals v b op p q {x} fits hp hq ep eq e er =
@@ -67,17 +67,17 @@ gate-stored literals v b op p q {x} fits hp hq ep eq e er =
 
 -- The reference of an output line names a vertex.
 pub output-due :
-    {file : List ℕ} {at n r : ℕ} → OutputLine file at n → record_of (up_to 10 (drop at file)) ≡ Output r → vertex_of r < n
+    {file : List ℕ} {at n r : ℕ} → OutputLine file at n → record_of (up_to 10 (drop at file)) ≡ Some (Output r) → vertex_of r < n
 output-due {r = r} l e = let er : l.reference ≡ r = cc l.this in rw er at l.below
 
 -- Its literal.
 pub output-stored :
-    (literals : List ℕ) (r : ℕ) {x : Literal} {y : Record} → x ≡ lit (literal_for literals r) → y ≡ Output r
+    (literals : List ℕ) (r : ℕ) {x : Literal} {y : Option Record} → x ≡ lit (literal_for literals r) → y ≡ Some (Output r)
     → map (literal_for literals) (outputs_in (y ∷ [])) ≡ x.0 ∷ []
 unfolding outputs_in
 output-stored literals r e er = rw (er, e) refl
 
-gate-formed : (g : netlist.Gate) → gate_record g ≡ Malformed → ⊥
+gate-formed : (g : netlist.Gate) → gate_record g ≡ None → ⊥
 gate-formed g e = let z : ◌≡◌ {A = ℕ} 0 1 = cc in omega arith
 
 -- Before a gate line: the gates ahead, asked for from here, come to what all of them come to. The last vertex is the one before `end`.
@@ -86,7 +86,7 @@ module _ (file : List ℕ) (all : List netlist.Gate) (os cs : List ℕ) (end : �
     pub rest : List netlist.Gate
     pub counted : v + length rest ≡ end
     pub inside : at ≤ length file
-    pub records : file_records (drop at file) ≡ map gate_record rest ++ (map Output os ++ map Constraint cs)
+    pub records : file_records (drop at file) ≡ map gate_record rest ++ (map output_record os ++ map constraint_record cs)
     pub ahead : ask_gates t rest ≡ ask_gates before all
     pub downward : Downward v rest
     pub room : t.build.asked + and_count rest ≤ max_ands
@@ -95,7 +95,7 @@ module _ (file : List ℕ) (all : List netlist.Gate) (os cs : List ℕ) (end : �
   record NextGate (at v : ℕ) (t : Traced) : Type 0 where
     gate : netlist.Gate
     others : List netlist.Gate
-    line : RecordAt file at (gate_record gate) (map gate_record others ++ (map Output os ++ map Constraint cs))
+    line : RecordAt file at (gate_record gate) (map gate_record others ++ (map output_record os ++ map constraint_record cs))
     counted : v + 1 + length others ≡ end
     ahead : ask_gates t (gate ∷ others) ≡ ask_gates before all
     first_below : gate.p < 2 * v
@@ -142,7 +142,7 @@ module _ {file : List ℕ} {all : List netlist.Gate} {os cs : List ℕ} {end : �
     unfolding ask_gates
     gates_end = rw none at a.ahead
 
-    pub gates-outputs : file_records (drop at file) ≡ map Output os ++ map Constraint cs
+    pub gates-outputs : file_records (drop at file) ≡ map output_record os ++ map constraint_record cs
     gates-outputs = rw none at a.records
 
   module _ (more : v < end) where
@@ -151,7 +151,7 @@ module _ {file : List ℕ} {all : List netlist.Gate} {os cs : List ℕ} {end : �
     next-gate = go a.rest a.counted a.records a.ahead a.downward a.room
       where
         go :
-            (gs : List netlist.Gate) → v + length gs ≡ end → file_records (drop at file) ≡ map gate_record gs ++ (map Output os ++ map Constraint cs)
+            (gs : List netlist.Gate) → v + length gs ≡ end → file_records (drop at file) ≡ map gate_record gs ++ (map output_record os ++ map constraint_record cs)
             → ask_gates t gs ≡ ask_gates before all → Downward v gs → t.build.asked + and_count gs ≤ max_ands → NextGate file all os cs end before at v t
         go [] n r h w m = absurd (omega arith)
         go (g ∷ gs) n r h (netlist.Downward.gate hp hq w) m =
@@ -207,9 +207,9 @@ module _ {file : List ℕ} {all : List netlist.Gate} {os cs : List ℕ} {end : �
 
 -- All gates are passed.
 pub gates-passed :
-    {file : List ℕ} {start end at v : ℕ} {before : Traced} (literals pairs : List ℕ) (c : Counts)
-    → GatesFrom file start end before at v (traced_of literals v pairs c) → end ≤ v → GatesPassed file start before (traced_of literals end pairs c) at
-gates-passed {end = end} {v = v} literals pairs c a last =
+    {file : List ℕ} {start end at v : ℕ} {before : Traced} (literals : List ℕ) (graph : Builder)
+    → GatesFrom file start end before at v (trace literals v graph) → end ≤ v → GatesPassed file start before (trace literals end graph) at
+gates-passed {end = end} {v = v} literals graph a last =
     let e : end ≡ v = omega (arith, a.counted) in
     record { asked = rw e (gates_end a last); inside = a.inside; records = gates-outputs a last }
 
@@ -219,7 +219,7 @@ module _ (file : List ℕ) (n : ℕ) (f : ℕ → ℕ) (old : List ℕ) (from : 
     pub rest : List ℕ
     pub counted : k + length rest ≡ end
     pub inside : at ≤ length file
-    pub records : file_records (drop at file) ≡ map Output rest ++ map Constraint cs
+    pub records : file_records (drop at file) ≡ map output_record rest ++ map constraint_record cs
     pub below : AllBelow (2 * n) rest
     pub writing : Writing old from (map f all) list k (map f rest)
 
@@ -227,13 +227,13 @@ module _ (file : List ℕ) (n : ℕ) (f : ℕ → ℕ) (old : List ℕ) (from : 
   record NextOutput (at k : ℕ) (list : List ℕ) : Type 0 where
     reference : ℕ
     others : List ℕ
-    line : RecordAt file at (Output reference) (map Output others ++ map Constraint cs)
+    line : RecordAt file at (output_record reference) (map output_record others ++ map constraint_record cs)
     counted : k + 1 + length others ≡ end
     bound : reference < 2 * n
     below : AllBelow (2 * n) others
     writing : Writing old from (map f all) list k (f reference ∷ map f others)
 
-output-formed : (r : ℕ) → Output r ≡ Malformed → ⊥
+output-formed : (r : ℕ) → output_record r ≡ None → ⊥
 output-formed r e = let z : ◌≡◌ {A = ℕ} 0 1 = cc in omega arith
 
 -- The outputs of the file from a place on, and its constraints.
@@ -272,7 +272,7 @@ module _ {file : List ℕ} {n : ℕ} {f : ℕ → ℕ} {old : List ℕ} {from : 
     next-output = go w.rest w.counted w.records w.below w.writing
       where
         go :
-            (rs : List ℕ) → k + length rs ≡ end → file_records (drop at file) ≡ map Output rs ++ map Constraint cs → AllBelow (2 * n) rs
+            (rs : List ℕ) → k + length rs ≡ end → file_records (drop at file) ≡ map output_record rs ++ map constraint_record cs → AllBelow (2 * n) rs
             → Writing old from (map f all) list k (map f rs) → NextOutput file n f old from all cs end at k list
         go [] c r b h = absurd (omega arith)
         go (x ∷ rs) c r (netlist.AllBelow.next l b) h =

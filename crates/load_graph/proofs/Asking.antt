@@ -1,14 +1,13 @@
 -- An AND asked for in the slices: the graph at their front is the definition's, and they hold a graph again.
+use Rattle.std.specs.Prelude.{None, Some}
 use Prim.Native.Nat.{◌*◌, ◌+◌, ◌<◌, suc, ℕ}
 use Rattle.aig.proofs.FirstVertexLaws.{first_vertex-frame, found_at}
-use Rattle.aig.proofs.FoldLaws.{pair-unfolded}
 use Rattle.aig.proofs.IndexLaws.{enter-keeps, row_length}
-use Rattle.aig.specs.Fold.{fold_of}
+use Rattle.aig.specs.Fold.{Unfolded, fold_of}
 use Rattle.aig.specs.Literal.{lit, literal_of, negate}
 use Rattle.aig.specs.Lookup.{entered, first_vertex, with_row}
 use Rattle.aig.specs.declared.fold.Folded.TheVariants.{Pair, To}
 use Rattle.aig.specs.declared.literal.Literal.{Literal}
-use Rattle.aig.specs.declared.lookup.Found.TheVariants.{At, Nothing}
 use Rattle.load_model.proofs.AskLaws.{Asked, ask_cases, folded, found, made}
 use Rattle.load_model.specs.Build.{Build, Built, ask_and, ask_gate, ask_xor, folded_or_not, found_or_made, inverted}
 use Rattle.load_model.specs.Load.{max_vertices}
@@ -61,47 +60,47 @@ module _ {pairs look : List ℕ} {c : Counts} (g : Graph pairs look c) (more : c
   pub row_fits : 2 * c.vertices + 1 < length pairs
   row_fits = omega (arith, g.long, room-below)
 
-  folded-graph : Graph pairs look (counts_after c Folded)
-  folded-graph = record { counted = counted-after g.counted Folded; index = g.index; long = g.long }
-
-  found-graph : Graph pairs look (counts_after c Found)
-  found-graph = record { counted = counted-after g.counted Found; index = g.index; long = g.long }
-
-  module _ (p q : ℕ) where
-    pub and_folded : {r : Literal} → fold_of p q ≡ To r
-        → (built_of pairs (record { literal = r; counts = counts_after c Folded }) ≡ ask_and (build_of pairs c) p q) × Graph pairs look (counts_after c Folded)
+  module _ (p q : ℕ) {r : Literal} (e : fold_of p q ≡ To r) where
+    -- An AND that folds.
+    pub and_folded : built_of r pairs (counts_after c Folded) ≡ ask_and (build_of pairs c) p q
     unfolding ask_and folded_or_not
-    and_folded e = (rw e refl, folded-graph)
+    and_folded = rw e refl
 
-    module _ {x y : Literal} (e : fold_of p q ≡ Pair x y) where
-      -- The two literals of a pair differ.
-      pub pair-apart : x.0 ≡ y.0 → ⊥
-      pair-apart h = omega (arith, (pair-unfolded p q e).ordered)
+  module _ {p q : ℕ} (u : Unfolded p q) where
+    -- The two literals of a pair differ.
+    pub pair-apart : p ≡ q → ⊥
+    pair-apart h = omega (arith, u.ordered)
 
-      pub and_found : {v : ℕ} → first_vertex pairs x.0 y.0 c.vertices ≡ At v
-          → (built_of pairs (record { literal = lit (literal_of v false); counts = counts_after c Found }) ≡ ask_and (build_of pairs c) p q) × Graph pairs look (counts_after c Found)
-      unfolding ask_and folded_or_not found_or_made
-      and_found {v} f = (rw (e, front-first pairs x.0 y.0 c.vertices, f, plain v) refl, found-graph)
-
+    module _ {v : ℕ} (f : first_vertex pairs p q c.vertices ≡ Some v) where
       -- A vertex that is found is one of the graph.
-      pub found_below : {v : ℕ} → first_vertex pairs x.0 y.0 c.vertices ≡ At v → v < max_vertices
-      found_below {v} f = omega (arith, room-below, (found_at pairs x.0 y.0 c.vertices v f).within)
+      pub found_below : v < max_vertices
+      found_below = omega (arith, room-below, (found_at pairs p q c.vertices v f).within)
 
-      module _ (f : first_vertex pairs x.0 y.0 c.vertices ≡ Nothing) where
-        made-graph : Graph (with_row pairs c.vertices x.0 y.0) (entered look max_vertices c.vertices x.0 y.0) (counts_after c Made)
-        made-graph =
-            record {
-              counted = counted-after g.counted Made;
-              index = enter-keeps x.0 y.0 g.index pair-apart f g.counted.some room-below row_fits;
-              long = rw (row_length pairs c.vertices x.0 y.0 row_fits) g.long;
-            }
+      pub and_found : {r : Literal} → r ≡ lit (literal_of v false)
+          → built_of r pairs (counts_after c Found) ≡ found_or_made (build_of pairs c) p q (first_vertex (take (2 * c.vertices) pairs) p q c.vertices)
+      unfolding found_or_made
+      and_found e = rw (e, front-first pairs p q c.vertices, f, plain v) refl
 
-        pub and-made :
-            (built_of (with_row pairs c.vertices x.0 y.0) (record { literal = lit (literal_of c.vertices false); counts = counts_after c Made }) ≡ ask_and (build_of pairs c) p q)
-            × Graph (with_row pairs c.vertices x.0 y.0) (entered look max_vertices c.vertices x.0 y.0) (counts_after c Made)
-        unfolding ask_and folded_or_not found_or_made
-        and-made =
-            (rw (e, front-first pairs x.0 y.0 c.vertices, f, front-row pairs c.vertices x.0 y.0 row_fits, plain c.vertices) refl, made-graph)
+    module _ (f : first_vertex pairs p q c.vertices ≡ None) where
+      pub made-graph : Graph (with_row pairs c.vertices p q) (entered look max_vertices c.vertices p q) (counts_after c Made)
+      made-graph =
+          record {
+            counted = counted-after g.counted Made;
+            index = enter-keeps p q g.index pair-apart f g.counted.some room-below row_fits;
+            long = rw (row_length pairs c.vertices p q row_fits) g.long;
+          }
+
+      pub and-made : {r : Literal} → r ≡ lit (literal_of c.vertices false)
+          → built_of r (with_row pairs c.vertices p q) (counts_after c Made)
+          ≡ found_or_made (build_of pairs c) p q (first_vertex (take (2 * c.vertices) pairs) p q c.vertices)
+      unfolding found_or_made
+      and-made e = rw (e, front-first pairs p q c.vertices, f, front-row pairs c.vertices p q row_fits, plain c.vertices) refl
+
+-- An AND that does not fold.
+pub and-pair : (b : Build) (p q : ℕ) {x y : Literal} {r : Built} → fold_of p q ≡ Pair x y
+    → r ≡ found_or_made b x.0 y.0 (first_vertex b.words x.0 y.0 b.count) → r ≡ ask_and b p q
+unfolding ask_and folded_or_not
+and-pair b p q e h = rw e h
 
 -- Each AND is counted.
 and_asked : (b : Build) (p q : ℕ) → (ask_and b p q).build.asked ≡ b.asked + 1

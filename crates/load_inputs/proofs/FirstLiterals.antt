@@ -2,7 +2,7 @@
 use Prim.Native.Nat.{◌*◌, ◌+◌, ◌-◌, ◌<◌, ◌≤◌, ℕ}
 use Rattle.load_model.specs.Build.{literals_from}
 use Rattle.text.specs.Decimal.{written}
-use Rattle.words.proofs.Writing.{Writing, ahead-one, writing_begins, writing-ends, writing-turn}
+use Rattle.words.proofs.Writing.{Writing, ahead-one, writing-ends, writing-turn}
 use lib.ListN.{length, set}
 use mathlib.Core.List.{List, ◌∷◌}
 use mathlib.Core.Path.{◌∙◌, ◌≡◌, ap, sym}
@@ -13,10 +13,6 @@ literals_cons : (v n : ℕ) → v < n → literals_from v (n - v) ≡ 2 * v ∷ 
 unfolding literals_from
 literals_cons v n h =
     ap (literals_from v) (ahead-one v n h) ∙ ap (λ (u : ℕ). 2 * v ∷ literals_from u (n - (v + 1))) (sym (add-one v))
-
--- The literals of a file's first vertices.
-pub literals-begin : (old : List ℕ) (n : ℕ) → Writing old 0 (literals_from 0 n) old 0 (literals_from 0 (n - 0))
-literals-begin old n = let z : n - 0 ≡ n = omega arith in rw z (writing_begins old 0 (literals_from 0 n))
 
 module _ {old list : List ℕ} {n v : ℕ} (w : Writing old 0 (literals_from 0 n) list v (literals_from v (n - v))) where
   pub literals-turn : v < n → v < length list → Writing old 0 (literals_from 0 n) (set list v (2 * v)) (v + 1) (literals_from (v + 1) (n - (v + 1)))

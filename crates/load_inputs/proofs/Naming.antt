@@ -3,16 +3,19 @@ use Prim.Native.Nat.{◌*◌, ◌+◌, ◌<◌, ◌≤◌, ℕ}
 use Rattle.load_model.specs.code.Paired.{named_literals}
 use Rattle.netlist_model.proofs.FrontLaws.{front-count}
 use Rattle.netlist_model.proofs.NameLaws.{place-few}
-use Rattle.netlist_model.specs.Names.{place_of}
+use Rattle.netlist_model.specs.Names.{found, place_in, place_of}
 use Rattle.netlist_model.specs.code.Passing.{NamesThere, front_names}
 use Rattle.netlist_names.proofs.Finding.{NameHere, Walk, walk_ended, walk_next}
 use Rattle.text.proofs.DecimalLaws.{written_append, written_one}
 use Rattle.text.specs.Decimal.{written}
 use Rattle.text.specs.Split.{up_to}
 use Rattle.words.proofs.Writing.{Writing, writing-ends, writing-turn}
+use Rattle.std.specs.Prelude.{Bool, None, Option, Some, cond, false, true, unwrap_or}
+use borrow.Author.Tests.{ltb-false}
+use lib.Dec.{ltb}
 use lib.ListN.{drop, length, set}
 use mathlib.Core.List.{List, [], ◌∷◌, map}
-use mathlib.Core.Path.{◌∙◌, ◌≡◌, ap}
+use mathlib.Core.Path.{◌∙◌, ◌≡◌, ap, ap₂, refl, sym}
 use native.Mathlib.Omega.{arith}
 
 -- The literal of the input with a name.
@@ -23,9 +26,23 @@ literal_of names name = 2 * (1 + place_of name names)
 pub record Named (names all : List (List ℕ)) (old list : List ℕ) (k : ℕ) (rest : List (List ℕ)) : Type 0 where
   pub writing : Writing old 1 (map (literal_of names) all) list (k + 1) (map (literal_of names) rest)
 
--- The place of a name is one of the first file's inputs, or their number.
-pub place-most : {file : List ℕ} {count r : ℕ} → NamesThere file count → (name : List ℕ) → r ≡ place_of name (front_names count file) → r ≤ count
-place-most {file} {count} t name e = omega (arith, place-few name (front_names count file), front-count t)
+-- A place, or else the number of places.
+place-or : (n k : ℕ) → k ≤ n → unwrap_or (place_in n k) n ≡ k
+place-or n k h = go (ltb k n) refl
+  where
+    go : (b : Bool) → ltb k n ≡ b → unwrap_or (cond b (Some k) None) n ≡ k
+    go true e = refl
+    go false e = omega (arith, ltb-false k n e)
+
+-- What a search for a name comes to: its place among the first file's names, or else their number.
+module _ {file : List ℕ} {count r : ℕ} {f : Option ℕ} (t : NamesThere file count) (name : List ℕ) (e : f ≡ found name (front_names count file)) (h : r ≡ unwrap_or f count) where
+  pub place-told : r ≡ place_of name (front_names count file)
+  place-told =
+      h ∙ ap₂ unwrap_or e (sym (front-count t)) ∙ place-or (length (front_names count file)) (place_of name (front_names count file)) (place-few name (front_names count file))
+
+  -- It is one of the first file's inputs, or their number.
+  pub place-most : r ≤ count
+  place-most = omega (arith, place-told, place-few name (front_names count file), front-count t)
 
 module _ {names all : List (List ℕ)} {old list file : List ℕ} {count at k : ℕ} where
   -- One more literal is written.

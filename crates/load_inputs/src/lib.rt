@@ -8,6 +8,7 @@ ghost use Rattle.netlist_model.specs.code.Passing.{NamesThere, front_names};
 ghost use Rattle.table.specs.Limits.{max_inputs};
 ghost use Rattle.text.specs.Decimal.{written};
 
+use netlist_model::Edition;
 use netlist_records::lines;
 
 // Writes the literals of the first `count` vertices by place.
@@ -15,14 +16,13 @@ pub fn write_by_place(literals: &mut [u32], count: u32)
     requires { (count ≤ 1 + max_inputs) × (count ≤ length literals.old) }
     ensures { literals.new ≡ written literals.old 0 (literals_from 0 count) }
 {
-    let mut v: u32 = 0;
-    while v < count {
+    for v in 0..count {
         literals[v as usize] = 2 * v;
-        v += 1;
     }
 }
 
 // Writes the literals of the second file's first vertices: those of the first file's inputs of its names, or by place where there are none.
+// The edition is a number, since `Edition` would ask more of callers, and so would a Summary with these three in it.
 pub fn write_second(
     left: &[u8],
     right: &[u8],
@@ -36,7 +36,7 @@ pub fn write_second(
     requires room { (names ≤ max_inputs) × (inputs ≤ max_inputs) × (1 + max_inputs ≤ length literals.old) }
     ensures { literals.new ≡ written literals.old 0 (second_literals edition inputs (front_names names left.now) (front_names names right.now)) }
 {
-    if edition == netlist_model::BY_NAME {
+    if edition == u32::from(Edition::ByName) {
         write_by_name(left, right, literals, names);
         return;
     }
@@ -52,11 +52,10 @@ fn write_by_name(left: &[u8], right: &[u8], literals: &mut [u32], count: u32)
 {
     literals[0] = 0;
     let mut at = lines::line_end(right, 0);
-    let mut k: u32 = 0;
-    while k < count {
-        let place = netlist_names::find_name(left, count, netlist_names::name_at(right, at));
-        k += 1;
-        literals[k as usize] = 2 * (1 + place);
+    for k in 0..count {
+        let name = netlist_names::name_at(right, at);
+        let place = netlist_names::find_name(left, count, name).unwrap_or(count);
+        literals[k as usize + 1] = 2 * (1 + place);
         at = lines::line_end(right, at);
     }
 }

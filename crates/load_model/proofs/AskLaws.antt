@@ -1,4 +1,5 @@
 -- One AND asked for: how it ends, and that the graph stays good.
+use Rattle.std.specs.Prelude.{Option, None, Some}
 use Prim.Native.Nat.{◌*◌, ◌+◌, ◌<◌, ◌≤◌, ℕ}
 use Rattle.aig.proofs.FirstVertexLaws.{found_at, found_nothing}
 use Rattle.aig.proofs.FoldLaws.{pair-below, pair-unfolded, to_below}
@@ -7,8 +8,6 @@ use Rattle.aig.specs.Lookup.{First, HoldsRow, Unused, first_vertex, first_word, 
 use Rattle.aig.specs.declared.fold.Folded.TheVariants.{Pair, To}
 use Rattle.aig.specs.declared.fold.Folded.{Folded}
 use Rattle.aig.specs.declared.literal.Literal.{Literal}
-use Rattle.aig.specs.declared.lookup.Found.TheVariants.{At, Nothing}
-use Rattle.aig.specs.declared.lookup.Found.{Found}
 use Rattle.load_model.proofs.GrownLaws.{grown-none, grown-one}
 use Rattle.load_model.specs.Build.{Build, Built, ask_and, folded_or_not, found_or_made, when_folded, when_found, when_made}
 use Rattle.load_model.specs.code.Good.{Good, Row}
@@ -32,10 +31,10 @@ module _ (b : Build) (p q : ℕ) where
   unfolding ask_and folded_or_not found_or_made
   ask_cases = fold (fold_of p q) refl
     where
-      look : (x y : Literal) (f : Found) → fold_of p q ≡ Pair x y → first_vertex b.words x.0 y.0 b.count ≡ f
+      look : (x y : Literal) (f : Option ℕ) → fold_of p q ≡ Pair x y → first_vertex b.words x.0 y.0 b.count ≡ f
           → Asked b p q (found_or_made b x.0 y.0 f)
-      look x y (At v) d e = found d (found_at b.words x.0 y.0 b.count v e)
-      look x y Nothing d e = made d (found_nothing b.words x.0 y.0 b.count e)
+      look x y (Some v) d e = found d (found_at b.words x.0 y.0 b.count v e)
+      look x y None d e = made d (found_nothing b.words x.0 y.0 b.count e)
 
       fold : (f : Folded) → fold_of p q ≡ f → Asked b p q (folded_or_not b f)
       fold (To r) d = folded d

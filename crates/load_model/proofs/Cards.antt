@@ -5,7 +5,7 @@ use Rattle.aig.specs.Lookup.{first_vertex, own_words}
 use Rattle.load_model.specs.Build.{ask_and, ask_gate, ask_gates, ask_xor, build_file, build_pair, empty_build, folded_or_not, found_or_made, literals_from}
 use Rattle.load_model.specs.Cards.{Loading, and_file, false_file, named_and, or_file, turned_and, xor_file}
 use Rattle.load_model.specs.Load.{counts_differ?, load_result, read_result, read_second, short_slice?, table_after, table_of, table_words, tally_of}
-use Rattle.netlist_model.specs.Check.{below?, check_file, check_from, constraints_in, due?, due_after, finish, formed?, gates_in, header?, known?, limited?, more?, names_in, outputs_in, read, read_by, read_netlist, twice?}
+use Rattle.netlist_model.specs.Check.{check_file, check_from, constraints_in, due_after, finish, formed?, gates_in, header?, known?, limited?, more?, names_in, outputs_in, read, read_by, read_netlist, twice?}
 use Rattle.netlist_model.specs.Meaning.{and_count}
 use Rattle.netlist_model.specs.Names.{first_lacked, name_count, place_of}
 use Rattle.netlist_model.specs.Netlist.{Netlist}
@@ -49,7 +49,7 @@ record FilesRead : Type 0 where
   turned-file : read_netlist (Second 2) turned_and ≡ read (named 98 97 3 4)
 
 reads : FilesRead
-unfolding due_after below? check_file check_from constraints_in due? finish first_refusal formed? gates_in header? known? limited? more? name_count names_in outputs_in place_of read_by read_netlist twice? digits_from numeral_of fields_record file_lines line_of part_lines name? operation_of record_of unended
+unfolding due_after check_file check_from constraints_in finish first_refusal formed? gates_in header? known? limited? more? name_count names_in outputs_in place_of read_by read_netlist twice? digits_from numeral_of fields_record file_lines line_of part_lines name? operation_of record_of unended
 reads = record { xor_file_lem = refl; false_file_lem = refl; and_file_lem = refl; or_file_lem = refl; named-file = refl; turned-file = refl }
 
 -- The second files in the first ones' order.

@@ -1,12 +1,10 @@
 -- Gates into the graph: each AND asked for is folded, found or made. (RULES 3.2)
-use Rattle.std.specs.Prelude.{◌*◌, ◌+◌, suc, zero, ℕ, get_or, List, [], ◌++◌, ◌∷◌, map}
+use Rattle.std.specs.Prelude.{◌*◌, ◌+◌, suc, zero, ℕ, get_or, List, [], ◌++◌, ◌∷◌, map, Option, None, Some}
 use Rattle.aig.specs.Fold.{fold_of}
 use Rattle.aig.specs.Literal.{negate, onto, vertex_of}
 use Rattle.aig.specs.Lookup.{first_vertex, own_words}
 use Rattle.aig.specs.declared.fold.Folded.TheVariants.{Pair, To}
 use Rattle.aig.specs.declared.fold.Folded.{Folded}
-use Rattle.aig.specs.declared.lookup.Found.TheVariants.{At, Nothing}
-use Rattle.aig.specs.declared.lookup.Found.{Found}
 use Rattle.netlist_model.specs.Netlist.{Gate, Netlist, constraint_reference}
 use Rattle.netlist_model.specs.declared.Operation.TheVariants.{And, Or, Xor}
 use Rattle.netlist_model.specs.declared.Operation.{Operation}
@@ -42,9 +40,9 @@ when_made b p q =
       build = record { words = b.words ++ (p ∷ q ∷ []); count = b.count + 1; asked = b.asked + 1; folded = b.folded; found = b.found };
     }
 
-unfoldable pub found_or_made : Build → ℕ → ℕ → Found → Built
-found_or_made b p q (At v) = when_found b v
-found_or_made b p q Nothing = when_made b p q
+unfoldable pub found_or_made : Build → ℕ → ℕ → Option ℕ → Built
+found_or_made b p q (Some v) = when_found b v
+found_or_made b p q None = when_made b p q
 
 unfoldable pub folded_or_not : Build → Folded → Built
 folded_or_not b (To r) = when_folded b r.0

@@ -1,16 +1,17 @@
 -- load: its refusals in order, its result, and the table it leaves.
-use Rattle.std.specs.Prelude.{◌*◌, ◌+◌, ◌-◌, ℕ, eqb, ltb, drop, length, Bool, ◌||◌, not, List, [], ◌++◌, ◌∷◌}
+use Rattle.std.specs.Prelude.{◌*◌, ◌+◌, ◌-◌, ℕ, eqb, ltb, drop, length, Bool, ◌||◌, not, List, [], ◌++◌, ◌∷◌, Result, Err, Ok}
 use Rattle.load_model.specs.Build.{PairBuilt, build_pair}
-use Rattle.load_model.specs.declared.Loaded.TheVariants.{Accepted, Refused}
 use Rattle.load_model.specs.declared.Loaded.{Loaded}
+use Rattle.load_model.specs.declared.Refused.{Refused}
 use Rattle.load_model.specs.declared.Tally.{Tally}
 use Rattle.netlist_model.specs.code.Accepted.{counts_in}
 use Rattle.netlist_model.specs.Check.{Counts, Read, read, read_netlist, unread}
-use Rattle.netlist_model.specs.Limits.{max_bytes}
+use Rattle.netlist_model.specs.Limits.{max_bytes, number_of_edition}
 use Rattle.netlist_model.specs.Names.{first_lacked}
 use Rattle.netlist_model.specs.Netlist.{Netlist}
 use Rattle.netlist_model.specs.Pairing.{paired}
 use Rattle.netlist_model.specs.declared.Role.TheVariants.{First, Second}
+use Rattle.refusal.specs.Number.{number_of}
 use Rattle.table.specs.Limits.{max_ands, max_inputs, max_outputs}
 use Rattle.table.specs.Refusals.{Test, first_refusal}
 use Rattle.table.specs.Table.{Graph, graph_of}
@@ -38,9 +39,9 @@ pub data Answer : Type 0 where
   refused : ℕ → ℕ → ℕ → Answer
 
 -- The rules' number and values for each case of the result. (RULES 8.1)
-abbrev pub answer_of : Loaded → Answer
-answer_of (Accepted e t) = accepted e t
-answer_of (Refused k f n) = refused k f n
+abbrev pub answer_of : Result Loaded Refused → Answer
+answer_of (Ok l) = accepted (number_of_edition l.edition) l.tally
+answer_of (Err r) = refused (number_of r.refusal) r.file r.line
 
 -- "1. The file is longer than 65,536 bytes.", for both files; `refuse` is given the number, the file and the line.
 abbrev pub length_tests : {A : Type 0} → (ℕ → ℕ → ℕ → A) → List ℕ → List ℕ → List (Test A)

@@ -4,6 +4,8 @@ use Rattle.load_model.proofs.PairLaws.{left_step, length_left, length_right, pai
 use Rattle.load_model.proofs.PairMeaningLaws.{literals_length}
 use Rattle.load_model.proofs.PairedLaws.{built_paired, length_second, second_alike}
 use Rattle.load_model.specs.Build.{Build, FileBuilt, build_file, build_pair, empty_build, literals_from}
+use Rattle.load_graph.specs.code.Slices.{build_of}
+use Rattle.load_graph.specs.declared.Counts.{Counts}
 use Rattle.load_model.specs.Load.{max_table, max_vertices, table_of, table_words, tally_of}
 use Rattle.load_model.specs.declared.Tally.{Tally}
 use Rattle.load_file.proofs.FileLoading.{inputs-few, outputs-few}
@@ -13,7 +15,8 @@ use Rattle.load_model.specs.code.Paired.{build_from, second_literals}
 use Rattle.load_pair.specs.code.Pair.{Agreed, OutputsHeld, TableRoom, pair_of, second_of, words_of}
 use Rattle.netlist_model.proofs.CheckLaws.{names-at_most}
 use Rattle.netlist_model.proofs.PairingLaws.{Matched, names-equal, paired-ands, paired-inputs, paired-outputs}
-use Rattle.netlist_model.proofs.ReadLaws.{holds-front, holds-names}
+use Rattle.netlist_model.proofs.ReadLaws.{holds-edition, holds-front, holds-names}
+use Rattle.netlist_model.specs.Limits.{number_of_edition}
 use Rattle.netlist_model.specs.Meaning.{and_count}
 use Rattle.netlist_model.specs.Netlist.{Netlist}
 use Rattle.netlist_model.specs.code.Accepted.{netlist_of}
@@ -56,6 +59,10 @@ pub none-asked : (n : ℕ) {b : Build} → b ≡ empty_build n → b.asked ≡ 0
 unfolding empty_build
 none-asked n e = ap (λ (b : Build). b.asked) e
 
+-- The words that a builder held are those of its slice.
+pub build-ended : {pairs held : List ℕ} {c : Counts} {b : Build} → pairs ≡ held → build_of held c ≡ b → build_of pairs c ≡ b
+build-ended e h = rw e h
+
 -- A file loaded with the literals of its first vertices by place.
 pub by_place : (b : Build) (d : Netlist) (old literals : List ℕ) (n : ℕ) → n ≡ 1 + d.inputs → literals ≡ written old 0 (literals_from 0 n)
     → build_from (take n literals) b d ≡ build_file b d
@@ -90,7 +97,7 @@ module _ {one two : List ℕ} {s t : Summary} (a : Agreed one two s t) where
         left = a.left.within;
         right = a.right.within;
         edition =
-            sym (ap (λ (x : Summary). x.edition) a.left.counts) ∙ a.edition ∙ ap (λ (x : Summary). x.edition) a.right.counts;
+            sym (holds-edition a.left) ∙ ap number_of_edition a.edition ∙ holds-edition a.right;
         inputs = sym (netlist_inputs one s) ∙ a.inputs ∙ netlist_inputs two t;
         names = a.names;
       }
@@ -112,16 +119,16 @@ module _ {one two : List ℕ} {s t : Summary} (a : Agreed one two s t) where
 
   -- The literals of the second file's first vertices, as they are written.
   second-literals :
-      second_literals t.edition t.inputs (front_names t.names one) (front_names t.names two)
+      second_literals (number_of_edition t.edition) t.inputs (front_names t.names one) (front_names t.names two)
       ≡ second_literals (netlist_of two t).edition (netlist_of two t).inputs (netlist_of one s).names (netlist_of two t).names
   second-literals =
       let front : front_names t.names one ≡ (netlist_of one s).names = ap (λ (n : ℕ). front_names n one) (sym same_names) ∙ holds-front a.left in
-      ap₂ (λ (ns ms : List (List ℕ)). second_literals t.edition t.inputs ns ms) front (holds-front a.right)
-      ∙ ap (λ (x : Summary). second_literals x.edition x.inputs (netlist_of one s).names (netlist_of two t).names) a.right.counts
+      ap₂ (λ (ns ms : List (List ℕ)). second_literals (number_of_edition t.edition) t.inputs ns ms) front (holds-front a.right)
+      ∙ ap₂ (λ (k n : ℕ). second_literals k n (netlist_of one s).names (netlist_of two t).names) (holds-edition a.right) (netlist_inputs two t)
 
   -- The second file, loaded with its first literals, is its netlist in the first file's order.
   pub second_built : (b : Build) (old literals : List ℕ)
-      → literals ≡ written old 0 (second_literals t.edition t.inputs (front_names t.names one) (front_names t.names two))
+      → literals ≡ written old 0 (second_literals (number_of_edition t.edition) t.inputs (front_names t.names one) (front_names t.names two))
       → build_from (take (1 + t.inputs) literals) b (netlist_of two t) ≡ build_file b (second_of one two s t)
   unfolding written
   second_built b old literals h =

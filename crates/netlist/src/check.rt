@@ -1,99 +1,97 @@
 // A whole file checked in one pass.
-ghost use Rattle.std.specs.Prelude.{◌*◌, ◌+◌, ◌<◌, eqb, leb, drop, length, ◌&&◌, ◌||◌, [], ◌≡◌};
-ghost use Rattle.netlist_model.specs.Check.{ands_of, answer_of, check_file, constraints_due, finish, reached, suits?};
-ghost use Rattle.netlist_model.specs.Limits.{by_name_edition, by_place_edition};
+ghost use Rattle.std.specs.Prelude.{◌*◌, ◌+◌, ◌<◌, eqb, leb, drop, length, ◌&&◌, Some, [], ◌≡◌};
+ghost use Rattle.netlist_model.specs.Check.{ands_of, answer_of, below?, check_file, constraints_due, due?, due_after, finish, suits?, twice?};
+ghost use Rattle.netlist_model.specs.Limits.{max_gates, number_of_edition};
 ghost use Rattle.netlist_model.specs.Names.{name_count};
-ghost use Rattle.netlist_model.specs.Records.{constraint_line, gate_line, header_line, line_with, output_line};
-ghost use Rattle.netlist_model.specs.code.Passing.{Counted, Held, NamesThere, SeenThere, StartInside, StartsAt, first_line, front_names, line_record, seen_by, step_of};
+ghost use Rattle.netlist_model.specs.Records.{line_with};
+ghost use Rattle.netlist_model.specs.code.Passing.{Counted, Held, NamesThere, SeenThere, StartInside, StartsAt, first_line, front_names, known_edition, line_due, line_record, numbered, seen_by, step_of};
+ghost use Rattle.table.specs.Limits.{max_inputs, max_outputs};
 
-use netlist_model::{Body, Checked, Due, Operation, Record, Role, Stepped, Summary};
+use netlist_model::{Body, Due, Edition, Operation, Record, Rejected, Role, Summary};
 use netlist_records::{lines, records};
+use refusal::Refusal;
 
 // Whether a file keeps the layout, the limits, the bounds of its references and its names apart: tests 2 to 6 and 18, line by line.
-pub fn check_file(file: &[u8], role: Role) -> Checked
+pub fn check_file(file: &[u8], role: Role) -> Result<Summary, Rejected>
     ensures answer { answer_of result ≡ check_file role file.now }
     ensures start { StartsAt file.now result }
 {
-    let mut at = 0;
-    let mut line: u32 = 1;
     let mut due = Due::First(role);
-    while at < file.len() {
-        let stepped = step(file, at, due);
-        match stepped {
-            Stepped::Refuse(number) => return Checked::Refused { number, line },
-            Stepped::Next(next) => {
-                due = next;
-                at = lines::line_end(file, at);
-                line += 1;
+    for at in lines::line_starts(file) {
+        match step(file, at, due) {
+            Ok(next) => due = next,
+            Err(refusal) => {
+                return Err(Rejected {
+                    refusal,
+                    line: line_due(due),
+                });
             }
         }
     }
-    ended(file, line, due)
+    ended(file, due)
 }
 
-// The record of the line that starts at `at`, malformed if it has no end byte.
-fn next_record(file: &[u8], at: usize) -> Record
+// The number of the line that is due.
+#[tactic(auto, unfolding(netlist_model::specs::code::Passing::line_due))]
+fn line_due(due: Due) -> u32
+    requires { Held due }
+    ensures { result ≡ line_due due }
+{
+    match due {
+        Due::First(_) => 1,
+        Due::Later(body) => 2 + body.name + body.gate + body.output + body.constraint,
+    }
+}
+
+// The record of the line that starts at `at`, if it has its end byte and the layout of one.
+#[tactic(auto, using(netlist_model::proofs::LineLaws::record_last, netlist_model::proofs::LineLaws::record_whole))]
+fn next_record(file: &[u8], at: usize) -> Option<Record>
     requires { at < length file.now }
     ensures { result ≡ line_record (drop at file.now) }
 {
     let line = text::until(file, at, lines::LINE_END);
     if file.len() <= at + line.len() {
-        return Record::Malformed;
+        return None;
     }
     records::read_record(line)
 }
 
 // What the line that starts at `at` comes to, by what is due.
-fn step(file: &[u8], at: usize, due: Due) -> Stepped
+fn step(file: &[u8], at: usize, due: Due) -> Result<Due, Refusal>
     requires held { Held due }
     requires seen_there { SeenThere file.now due }
     requires at_in_bounds { at < length file.now }
-    ensures { result ≡ step_of (seen_by file.now due) due (first_line (drop at file.now)) }
+    ensures { numbered result ≡ step_of (seen_by file.now due) due (first_line (drop at file.now)) }
 {
-    let found = next_record(file, at);
+    let Some(found) = next_record(file, at) else {
+        return Err(Refusal::MalformedLine);
+    };
     match due {
         Due::First(role) => first_step(role, found),
         Due::Later(body) => later_step(file, at, body, found),
     }
 }
 
-fn first_step(role: Role, found: Record) -> Stepped
-    ensures { result ≡ step_of [] (Due.First role) (line_with found []) }
+// The tests of line 1 after that of its layout.
+fn first_step(role: Role, found: Record) -> Result<Due, Refusal>
+    ensures { numbered result ≡ step_of [] (Due.First role) (line_with (Some found) []) }
 {
-    match found {
-        Record::Malformed => Stepped::Refuse(2),
-        Record::Name => Stepped::Refuse(5),
-        Record::Gate { op: _, p: _, q: _ } => Stepped::Refuse(5),
-        Record::Output(_) => Stepped::Refuse(5),
-        Record::Constraint(_) => Stepped::Refuse(5),
-        Record::Header {
-            edition,
-            inputs,
-            gates,
-            outputs,
-        } => header_step(role, edition, inputs, gates, outputs),
+    let Record::Header {
+        edition,
+        inputs,
+        gates,
+        outputs,
+    } = found
+    else {
+        return Err(Refusal::NotDue);
+    };
+    let Some(edition) = known_edition(role, edition) else {
+        return Err(Refusal::Edition);
+    };
+    if !are_limited(inputs, gates, outputs) {
+        return Err(Refusal::Count);
     }
-}
-
-fn header_step(role: Role, edition: u32, inputs: u32, gates: u32, outputs: u32) -> Stepped
-    ensures { result ≡ step_of [] (Due.First role) (header_line edition inputs gates outputs) }
-{
-    if !is_known(role, edition) {
-        return Stepped::Refuse(3);
-    }
-    if table::MAX_INPUTS < inputs {
-        return Stepped::Refuse(4);
-    }
-    if netlist_model::MAX_GATES < gates {
-        return Stepped::Refuse(4);
-    }
-    if outputs < 1 {
-        return Stepped::Refuse(4);
-    }
-    if table::MAX_OUTPUTS < outputs {
-        return Stepped::Refuse(4);
-    }
-    Stepped::Next(Due::Later(Body {
+    Ok(Due::Later(Body {
         edition,
         inputs,
         names: name_count(edition, inputs),
@@ -109,30 +107,43 @@ fn header_step(role: Role, edition: u32, inputs: u32, gates: u32, outputs: u32) 
     }))
 }
 
-// Whether a file of a pair may have an edition.
-fn is_known(role: Role, edition: u32) -> bool
-    ensures { result ≡ ((eqb edition by_place_edition || eqb edition by_name_edition) && suits? role edition) }
+// The edition with a number, if a file of a pair may have it.
+fn known_edition(role: Role, number: u32) -> Option<Edition>
+    ensures { result ≡ known_edition role number }
 {
-    if edition < netlist_model::BY_PLACE {
-        return false;
-    }
-    if netlist_model::BY_NAME < edition {
-        return false;
-    }
+    let edition = Edition::try_from(number).ok()?;
+    suits(role, number).then_some(edition)
+}
+
+// Whether the number of an edition is that of the pair's first file.
+fn suits(role: Role, number: u32) -> bool
+    ensures { result ≡ suits? role number }
+{
     match role {
         Role::First => true,
-        Role::Second(first) => edition == first,
+        Role::Second(first) => number == first,
     }
 }
 
-// How many lines of names an edition makes due.
-fn name_count(edition: u32, inputs: u32) -> u32
-    ensures { result ≡ name_count edition inputs }
+// Whether the counts of line 1 are within their limits.
+fn are_limited(inputs: u32, gates: u32, outputs: u32) -> bool
+    ensures { result ≡ (leb inputs max_inputs && leb gates max_gates && leb 1 outputs && leb outputs max_outputs) }
 {
-    if edition == netlist_model::BY_NAME {
-        return inputs;
+    inputs <= table::MAX_INPUTS
+        && gates <= netlist_model::MAX_GATES
+        && 1 <= outputs
+        && outputs <= table::MAX_OUTPUTS
+}
+
+// How many lines of names an edition makes due.
+#[tactic(auto, unfolding(netlist_model::specs::Names::name_count))]
+fn name_count(edition: Edition, inputs: u32) -> u32
+    ensures { result ≡ name_count (number_of_edition edition) inputs }
+{
+    match edition {
+        Edition::ByPlace => 0,
+        Edition::ByName => inputs,
     }
-    0
 }
 
 // How many C lines may come.
@@ -145,107 +156,116 @@ fn constraints_due(role: Role) -> u32
     }
 }
 
-fn later_step(file: &[u8], at: usize, body: Body, found: Record) -> Stepped
+// The tests of a later line after that of its layout. `Counted` is no ghost field of `Body`: the definitions make a body of refused lines too.
+fn later_step(file: &[u8], at: usize, body: Body, found: Record) -> Result<Due, Refusal>
     requires counted { Counted body }
     requires names_there { NamesThere file.now body.name }
     requires at_in_bounds { at < length file.now }
-    requires found_value { found ≡ line_record (drop at file.now) }
-    ensures { result ≡ step_of (front_names body.name file.now) (Due.Later body) (first_line (drop at file.now)) }
+    requires found_value { Some found ≡ line_record (drop at file.now) }
+    ensures { numbered result ≡ step_of (front_names body.name file.now) (Due.Later body) (first_line (drop at file.now)) }
+{
+    if !is_due(body, found) {
+        return Err(Refusal::NotDue);
+    }
+    if !is_below(body, found) {
+        return Err(Refusal::Reference);
+    }
+    if is_repeated(file, at, body.name, found) {
+        return Err(Refusal::RepeatedName);
+    }
+    Ok(Due::Later(after(body, found)))
+}
+
+// Whether a line is of the kind due.
+fn is_due(body: Body, found: Record) -> bool
+    ensures { result ≡ due? body (Some found) }
 {
     match found {
-        Record::Malformed => Stepped::Refuse(2),
-        Record::Header {
-            edition: _,
-            inputs: _,
-            gates: _,
-            outputs: _,
-        } => Stepped::Refuse(5),
-        Record::Name => name_step(file, at, body),
-        Record::Gate { op, p, q } => gate_step(body, op, p, q),
-        Record::Output(r) => output_step(body, r),
-        Record::Constraint(r) => constraint_step(body, r),
+        Record::Header { .. } => false,
+        Record::Name => body.name < body.names,
+        Record::Gate { .. } => has_names(body) && body.gate < body.gates,
+        Record::Output(_) => has_gates(body) && body.output < body.outputs,
+        Record::Constraint(_) => has_outputs(body) && body.constraint < body.constraints,
     }
 }
 
-fn name_step(file: &[u8], at: usize, body: Body) -> Stepped
-    requires counted { Counted body }
-    requires names_there { NamesThere file.now body.name }
-    requires at_in_bounds { at < length file.now }
-    requires value { Record.Name ≡ line_record (drop at file.now) }
-    ensures { result ≡ step_of (front_names body.name file.now) (Due.Later body) (first_line (drop at file.now)) }
+// Whether all names that are due were read.
+fn has_names(body: Body) -> bool
+    ensures { result ≡ eqb body.name body.names }
 {
-    let name = netlist_names::name_at(file, at);
-    if body.names <= body.name {
-        return Stepped::Refuse(5);
-    }
-    if netlist_names::find_name(file, body.name, name) < body.name {
-        return Stepped::Refuse(18);
-    }
-    Stepped::Next(Due::Later(reached(
-        body,
-        body.name + 1,
-        body.gate,
-        body.output,
-        body.constraint,
-        body.ands,
-        body.reference,
-    )))
+    body.name == body.names
 }
 
-// What is due where so many names, gates, outputs and C lines are read, with the ANDs of these gates and the reference of a C line.
-fn reached(
-    body: Body,
-    name: u32,
-    gate: u32,
-    output: u32,
-    constraint: u32,
-    ands: u32,
-    reference: u32,
-) -> Body
-    ensures { result ≡ reached body name gate output constraint ands reference }
+// Whether all names and gates were.
+fn has_gates(body: Body) -> bool
+    ensures { result ≡ (eqb body.name body.names && eqb body.gate body.gates) }
 {
-    Body {
-        edition: body.edition,
-        inputs: body.inputs,
-        names: body.names,
-        gates: body.gates,
-        outputs: body.outputs,
-        constraints: body.constraints,
-        name,
-        gate,
-        output,
-        constraint,
-        ands,
-        reference,
-    }
+    has_names(body) && body.gate == body.gates
 }
 
-fn gate_step(body: Body, op: Operation, p: u32, q: u32) -> Stepped
+// Whether all names, gates and outputs were.
+fn has_outputs(body: Body) -> bool
+    ensures { result ≡ (eqb body.name body.names && eqb body.gate body.gates && eqb body.output body.outputs) }
+{
+    has_gates(body) && body.output == body.outputs
+}
+
+// Whether the references of a line are below their bound.
+fn is_below(body: Body, found: Record) -> bool
     requires { Counted body }
-    ensures { result ≡ step_of [] (Due.Later body) (gate_line op p q) }
+    ensures { result ≡ below? body (Some found) }
 {
-    if body.name != body.names {
-        return Stepped::Refuse(5);
+    match found {
+        Record::Header { .. } => false,
+        Record::Name => true,
+        Record::Gate { op: _, p, q } => {
+            let bound = 2 * (1 + body.inputs + body.gate);
+            p < bound && q < bound
+        }
+        Record::Output(r) | Record::Constraint(r) => r < 2 * (1 + body.inputs + body.gates),
     }
-    if body.gates <= body.gate {
-        return Stepped::Refuse(5);
+}
+
+// Whether the line is a name's and stands in an earlier line, of which there are `count`.
+fn is_repeated(file: &[u8], at: usize, count: u32, found: Record) -> bool
+    requires names_there { NamesThere file.now count }
+    requires at_in_bounds { at < length file.now }
+    requires found_value { Some found ≡ line_record (drop at file.now) }
+    ensures { result ≡ twice? (front_names count file.now) (first_line (drop at file.now)) }
+{
+    let Record::Name = found else {
+        return false;
+    };
+    netlist_names::find_name(file, count, netlist_names::name_at(file, at)).is_some()
+}
+
+// What is due after a line that passed its tests.
+#[tactic(auto, unfolding(netlist_model::specs::Check::due_after))]
+fn after(body: Body, found: Record) -> Body
+    requires { Counted body }
+    ensures { Due.Later result ≡ due_after (Due.Later body) (Some found) }
+{
+    match found {
+        Record::Header { .. } => body,
+        Record::Name => Body {
+            name: body.name + 1,
+            ..body
+        },
+        Record::Gate { op, .. } => Body {
+            gate: body.gate + 1,
+            ands: body.ands + ands_of(op),
+            ..body
+        },
+        Record::Output(_) => Body {
+            output: body.output + 1,
+            ..body
+        },
+        Record::Constraint(r) => Body {
+            constraint: body.constraint + 1,
+            reference: r,
+            ..body
+        },
     }
-    let bound = 2 * (1 + body.inputs + body.gate);
-    if bound <= p {
-        return Stepped::Refuse(6);
-    }
-    if bound <= q {
-        return Stepped::Refuse(6);
-    }
-    Stepped::Next(Due::Later(reached(
-        body,
-        body.name,
-        body.gate + 1,
-        body.output,
-        body.constraint,
-        body.ands + ands_of(op),
-        body.reference,
-    )))
 }
 
 // How many ANDs a gate stands for.
@@ -253,97 +273,29 @@ fn ands_of(op: Operation) -> u32
     ensures { result ≡ ands_of op }
 {
     match op {
-        Operation::And => 1,
-        Operation::Or => 1,
+        Operation::And | Operation::Or => 1,
         Operation::Xor => 3,
     }
 }
 
-fn output_step(body: Body, r: u32) -> Stepped
-    requires { Counted body }
-    ensures { result ≡ step_of [] (Due.Later body) (output_line r) }
-{
-    if body.name != body.names {
-        return Stepped::Refuse(5);
-    }
-    if body.gate != body.gates {
-        return Stepped::Refuse(5);
-    }
-    if body.outputs <= body.output {
-        return Stepped::Refuse(5);
-    }
-    if is_past(body, r) {
-        return Stepped::Refuse(6);
-    }
-    Stepped::Next(Due::Later(reached(
-        body,
-        body.name,
-        body.gate,
-        body.output + 1,
-        body.constraint,
-        body.ands,
-        body.reference,
-    )))
-}
-
-// Whether a reference is not below twice the number of vertices.
-fn is_past(body: Body, r: u32) -> bool
-    requires { Counted body }
-    ensures { result ≡ leb (2 * (1 + body.inputs + body.gates)) r }
-{
-    2 * (1 + body.inputs + body.gates) <= r
-}
-
-fn constraint_step(body: Body, r: u32) -> Stepped
-    requires { Counted body }
-    ensures { result ≡ step_of [] (Due.Later body) (constraint_line r) }
-{
-    if body.name != body.names {
-        return Stepped::Refuse(5);
-    }
-    if body.gate != body.gates {
-        return Stepped::Refuse(5);
-    }
-    if body.output != body.outputs {
-        return Stepped::Refuse(5);
-    }
-    if body.constraints <= body.constraint {
-        return Stepped::Refuse(5);
-    }
-    if is_past(body, r) {
-        return Stepped::Refuse(6);
-    }
-    Stepped::Next(Due::Later(reached(
-        body,
-        body.name,
-        body.gate,
-        body.output,
-        body.constraint + 1,
-        body.ands,
-        r,
-    )))
-}
-
-// After the last line, `line` being the number of the next.
-fn ended(file: &[u8], line: u32, due: Due) -> Checked
+// After the last line. `Summary` takes seven fields of `Body` one by one: `Body` has the counts read besides, and no `start`.
+fn ended(file: &[u8], due: Due) -> Result<Summary, Rejected>
     requires held { Held due }
     requires start_inside { StartInside file.now due }
-    ensures answer { answer_of result ≡ finish line due }
+    ensures answer { answer_of result ≡ finish (line_due due) due }
     ensures start { StartsAt file.now result }
 {
-    let Due::Later(body) = due else {
-        return Checked::Refused { number: 5, line };
+    let missing = Rejected {
+        refusal: Refusal::NotDue,
+        line: line_due(due),
     };
-    if body.name != body.names {
-        return Checked::Refused { number: 5, line };
+    let Due::Later(body) = due else {
+        return Err(missing);
+    };
+    if !has_outputs(body) {
+        return Err(missing);
     }
-    if body.gate != body.gates {
-        return Checked::Refused { number: 5, line };
-    }
-    if body.output != body.outputs {
-        return Checked::Refused { number: 5, line };
-    }
-    Checked::Accepted(Summary {
+    Ok(Summary {
         edition: body.edition,
         inputs: body.inputs,
         names: body.names,

@@ -3,4 +3,4 @@
 
 pub mod check;
 
-pub use netlist_model::{Checked, MAX_BYTES, Role, Summary};
+pub use netlist_model::{MAX_BYTES, Rejected, Role, Summary};

@@ -5,9 +5,10 @@ use Rattle.netlist_model.proofs.FileLaws as file
 use Rattle.netlist_model.proofs.NameLaws.{count-few, name-is}
 use Rattle.netlist_model.proofs.RecordLaws as RecordLaws
 use Rattle.netlist_model.proofs.RecordLaws.{Spelled, named}
-use Rattle.netlist_model.proofs.StepLaws.{ConstraintDue, GateDue, GateFits, Known, Limited, OutputDue, and_then, check_next, check_refused, check_step, constraint-first, constraint_step, finish-all, finish-cases, gate-cases, gate-first, gate-next, header-again, header-cases, header-next, malformed-refused, name-cases, name-first, name-next, output-first, output_step, reference_extra, reference-next}
+use Rattle.netlist_model.proofs.StepLaws.{ConstraintDue, GateDue, GateFits, Known, Limited, OutputDue, and_then, check_next, check_refused, check_step, constraint-first, constraint_step, edition-kept, finish-all, finish-cases, gate-cases, gate-first, gate-next, header-again, header-cases, header-next, malformed-refused, name-cases, name-first, name-next, output-first, output_step, reference_extra, reference-next}
 use Rattle.netlist_model.specs.code.Accepted.{Suits, counts_in}
 use Rattle.netlist_model.specs.Check.{Counts, accepted, after_constraint, after_gate, after_header, after_name, after_output, ands_of, check_from, constraints_due, finish, more?, refused, suits?}
+use Rattle.netlist_model.specs.Limits.{edition_of, number_of_edition}
 use Rattle.netlist_model.specs.Meaning.{and_count}
 use Rattle.netlist_model.specs.Names as names
 use Rattle.netlist_model.specs.Names.{Among, IsName, NewNames, name_count}
@@ -16,6 +17,7 @@ use Rattle.netlist_model.specs.Netlist.{AllBelow, Downward, Gate, Netlist, Withi
 use Rattle.netlist_model.specs.Records.{Line, constraint_line, gate_line, header_line, malformed_line, name_line, output_line}
 use Rattle.netlist_model.specs.declared.Body.{Body}
 use Rattle.netlist_model.specs.declared.Due.TheVariants.{First, Later}
+use Rattle.netlist_model.specs.declared.edition.Edition.{Edition}
 use Rattle.netlist_model.specs.declared.Operation.{Operation}
 use Rattle.netlist_model.specs.declared.Role.TheVariants as role
 use Rattle.netlist_model.specs.declared.Role.TheVariants.{Second}
@@ -70,7 +72,7 @@ due-few role.First = omega arith
 due-few (Second f) = omega arith
 
 -- What is due after line 1, where m names are due and c constraints may come.
-module _ (e i m g o c : ℕ) where
+module _ (e : Edition) (i m g o c : ℕ) where
   abbrev body : ℕ → ℕ → ℕ → ℕ → ℕ → ℕ → Body
   body l k j t a r =
       record {
@@ -137,7 +139,7 @@ module _ (e i m g o c : ℕ) where
   constraints-accepted :
       (n : ℕ) (seen : List (List ℕ)) (a : ℕ) {rs : List ℕ} → AllBelow (2 * (1 + i + g)) rs → length rs ≤ 1 → length rs ≤ c
       → check_from n seen (Later (body m g o 0 a 1)) (map constraint_line rs)
-      ≡ accepted (record { edition = e; inputs = i; names = m; gates = g; outputs = o; ands = a; reference = get_or rs 0 1 })
+      ≡ accepted (record { edition = number_of_edition e; inputs = i; names = m; gates = g; outputs = o; ands = a; reference = get_or rs 0 1 })
   unfolding check_from
   constraints-accepted n seen a netlist.AllBelow.none one h =
       finish-all n (body m g o 0 a 1) (record { names = refl; gates = refl; outputs = refl })
@@ -152,7 +154,7 @@ abbrev all_outputs : Role → Netlist → Body
 all_outputs role d =
     let g = length d.gates in
     let o = length d.outputs in
-    body d.edition d.inputs (length d.names) g o (constraints_due role) (length d.names) g o 0 (and_count d.gates) 1
+    body (edition_of d.edition) d.inputs (length d.names) g o (constraints_due role) (length d.names) g o 0 (and_count d.gates) 1
 
 -- The number of the line after them.
 abbrev pub line_after : Netlist → ℕ
@@ -176,16 +178,17 @@ lines-passed role {d} w s =
     check_next 1 [] (First role) (Later (after_header role e i g o)) (header_line_of d) (map name_line d.names ++ body_lines d)
     (header-next [] role e i g o (record { either = w.edition; same = s })
     (record { inputs = w.inputs; gates = w.gates; some = w.some; outputs = w.outputs }))
-    ∙ (rw (← names-due w) (names-passed e i m g o c 2 0 (body_lines d) w.names (omega arith)))
-    ∙ (rw z at (gates-passed e i m g o c (2 + m) d.names 0 0 outputs w.downward (omega arith) (omega arith)))
-    ∙ outputs-passed e i m g o c (2 + m + g) d.names 0 (and_count d.gates) last w.below (omega arith)
+    ∙ (rw (← names-due w) (names-passed (edition_of e) i m g o c 2 0 (body_lines d) w.names (omega arith)))
+    ∙ (rw z at (gates-passed (edition_of e) i m g o c (2 + m) d.names 0 0 outputs w.downward (omega arith) (omega arith)))
+    ∙ outputs-passed (edition_of e) i m g o c (2 + m + g) d.names 0 (and_count d.gates) last w.below (omega arith)
 
 -- A netlist within its limits is accepted, with its counts, where it suits its file's role.
 pub lines-accepted : (role : Role) {d : Netlist} → Within d → Suits role d → check_from 1 [] (First role) (netlist_lines d) ≡ accepted (counts_in d)
 lines-accepted role {d} w s =
     lines-passed role w (suits-told role d s)
-    ∙ constraints-accepted d.edition d.inputs (length d.names) (length d.gates) (length d.outputs) (constraints_due role)
-    (line_after d) d.names (and_count d.gates) w.constraint-below w.constraints (constraints-few role w s)
+    ∙ (rw (edition-kept w.edition) at
+    (constraints-accepted (edition_of d.edition) d.inputs (length d.names) (length d.gates) (length d.outputs) (constraints_due role)
+    (line_after d) d.names (and_count d.gates) w.constraint-below w.constraints (constraints-few role w s)))
 
 -- In a second file a constraint is refused.
 pub lines_constrained : (first : ℕ) {d : Netlist} → Within d → d.edition ≡ first → (d.constraints ≡ [] → ⊥)
@@ -217,7 +220,7 @@ record Left (seen : List (List ℕ)) (b : Body) (ls : List Line) (s : Counts) : 
   sums :
       s
       ≡ record {
-        edition = b.edition;
+        edition = number_of_edition b.edition;
         inputs = b.inputs;
         names = b.names;
         gates = b.gates;
@@ -438,7 +441,7 @@ module _ (s : Counts) where
               constraint-below = rw eg at t.constraint-below;
             };
         suited = suits role _ k.same (omega (arith, t.constraint-count));
-        sums = rw (ea, em, eg, eo) at t.sums;
+        sums = rw (edition-kept k.either, ea, em, eg, eo) at t.sums;
       }
 
   -- Lines that are accepted are those of a netlist within its limits.

@@ -9,7 +9,6 @@ use Rattle.netlist_model.specs.Names.{NewNames}
 use Rattle.netlist_model.specs.Netlist as netlist
 use Rattle.netlist_model.specs.Netlist.{AllBelow, Downward, Gate, Netlist, Within, body_lines, fields_of, gate_line_of, line_bytes, lines_bytes, netlist_lines}
 use Rattle.netlist_model.specs.Records.{Line, constraint_line, fields_record, file_lines, kind_of, line_of, line_with, part_lines, malformed_line, name_line, output_line, record_of, unended}
-use Rattle.netlist_model.specs.declared.Record.TheVariants.{Malformed}
 use Rattle.netlist_model.specs.declared.Record.{Record}
 use Rattle.table.specs.Limits.{max_inputs}
 use Rattle.text.proofs.SplitLaws.{join-split_at, lacks-join, split_at-join}
@@ -17,6 +16,7 @@ use Rattle.text.specs.Split.{join, split_at}
 use lib.ListN.{length}
 use mathlib.Core.List.{List, [], ◌++◌, ◌∷◌, append_assoc, map}
 use mathlib.Core.Logic.{◌⊎◌, ⊎_elim}
+use Rattle.std.specs.Prelude.{Option, None}
 use mathlib.Core.Path.{◌∙◌, ◌≡◌, ap, ap₂, refl, sym}
 use native.Mathlib.Omega.{arith}
 
@@ -55,7 +55,7 @@ unfolding line_of record_of
 line_written line s =
     sym (join-split_at 9 line)
     ∙ ap (join 9)
-    (read-written (split_at 9 line) (λ e. spelled-formed s (ap (λ (r : Record). line_with r (split_at 9 line)) e))).fields
+    (read-written (split_at 9 line) (λ e. spelled-formed s (ap (λ (r : Option Record). line_with r (split_at 9 line)) e))).fields
 
 parts-written : (parts : List (List ℕ)) → AllSpelled (part_lines parts) → join 10 parts ≡ lines_bytes (part_lines parts)
 unfolding part_lines unended lines_bytes line_bytes
@@ -74,7 +74,7 @@ file-written bytes s = sym (join-split_at 10 bytes) ∙ parts-written (split_at 
 -- Of some lines, all that are not malformed can be held by bytes.
 pub data Legible : List Line → Type 0 where
   none : Legible []
-  next : {l : Line} {ls : List Line} → ((kind_of l ≡ Malformed → ⊥) → Spelled l) → Legible ls → Legible (l ∷ ls)
+  next : {l : Line} {ls : List Line} → ((kind_of l ≡ None → ⊥) → Spelled l) → Legible ls → Legible (l ∷ ls)
 
 parts_legible : (parts : List (List ℕ)) → Legible (part_lines parts)
 unfolding part_lines unended line_of record_of

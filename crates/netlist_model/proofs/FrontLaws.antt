@@ -4,17 +4,17 @@ use Rattle.netlist_model.proofs.LineLaws.{line-ahead}
 use Rattle.netlist_model.specs.Check.{names_in}
 use Rattle.netlist_model.specs.Records.{Line, file_lines, kind_of, malformed_line, name_line}
 use Rattle.netlist_model.specs.code.Passing.{Names, NamesThere, front_names, place_after}
-use Rattle.netlist_model.specs.declared.Record.TheVariants.{Malformed}
 use lib.ListN.{get_or-eq_default, drop, get_or, length}
 use lib.Seq.{drop-cons, take_at}
 use mathlib.Core.List.{List, [], ◌++◌, ◌∷◌, map}
+use Rattle.std.specs.Prelude.{None}
 use mathlib.Core.Path.{◌∙◌, ◌≡◌, ap, refl}
 use native.Mathlib.Decide.{dec_lt}
 use native.Mathlib.Omega.{arith}
 
 -- The first n lines are not malformed.
 abbrev pub Formed : List Line → ℕ → Type 0
-Formed ls n = (k : ℕ) → k < n → kind_of (get_or ls k malformed_line) ≡ Malformed → ⊥
+Formed ls n = (k : ℕ) → k < n → kind_of (get_or ls k malformed_line) ≡ None → ⊥
 
 -- The place after some lines, and the lines from there on.
 pub record After (file : List ℕ) (k : ℕ) : Type 0 where

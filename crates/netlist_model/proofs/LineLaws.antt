@@ -3,7 +3,7 @@ use Prim.Native.Nat.{◌+◌, ◌-◌, ◌<◌, ◌≤◌, ℕ}
 use Rattle.netlist_model.proofs.RecordLaws.{kind_with}
 use Rattle.netlist_model.specs.code.Passing.{file_records, first_line, line_record}
 use Rattle.netlist_model.specs.Records.{Line, file_lines, kind_of, line_of, part_lines, malformed_line, name_line, record_of, unended}
-use Rattle.netlist_model.specs.declared.Record.TheVariants.{Malformed, Name}
+use Rattle.netlist_model.specs.declared.Record.TheVariants.{Name}
 use Rattle.netlist_model.specs.declared.Record.{Record}
 use Rattle.text.proofs.SplitLaws.{has_shorter, has-whole, split_at_append, split_at-last, split_at-next, split_at-some, up_to-all, up_to_shorter}
 use Rattle.text.specs.Split.{has, split_at, up_to}
@@ -12,6 +12,7 @@ use lib.Dec.{ltb}
 use lib.ListN.{drop, drop_of_length-le, length, length-drop}
 use mathlib.Core.Bool.{Bool, false, true}
 use mathlib.Core.List.{List, [], ◌++◌, ◌∷◌, map}
+use Rattle.std.specs.Prelude.{Option, None, Some}
 use mathlib.Core.Path.{◌∙◌, ◌≡◌, ap, refl, sym}
 use native.Mathlib.Omega.{arith}
 
@@ -70,7 +71,7 @@ module _ (file : List ℕ) (at : ℕ) where
   pub record_whole : at + length (up_to 10 (drop at file)) < length file → line_record (drop at file) ≡ record_of (up_to 10 (drop at file))
   record_whole h = ap kind_of (line_whole h) ∙ kind_of_lem (up_to 10 (drop at file))
 
-  pub record_last : length file ≤ at + length (up_to 10 (drop at file)) → line_record (drop at file) ≡ Malformed
+  pub record_last : length file ≤ at + length (up_to 10 (drop at file)) → line_record (drop at file) ≡ None
   record_last h = ap kind_of (line_last h)
 
   -- The line that starts here stands first, with its end byte or without.
@@ -93,7 +94,7 @@ module _ (file : List ℕ) (at : ℕ) where
           ∙ rw (line_last (omega arith), drop_of_length-le file (let l : length file ≤ at + length (up_to 10 (drop at file)) + 1 = omega arith in l)) refl
 
   -- A line that is not malformed has its end byte.
-  pub formed-ended : (line_record (drop at file) ≡ Malformed → ⊥) → at + length (up_to 10 (drop at file)) < length file
+  pub formed-ended : (line_record (drop at file) ≡ None → ⊥) → at + length (up_to 10 (drop at file)) < length file
   formed-ended h = go (ltb (at + length (up_to 10 (drop at file))) (length file)) refl
     where
       go : (t : Bool) → ltb (at + length (up_to 10 (drop at file))) (length file) ≡ t → at + length (up_to 10 (drop at file)) < length file
@@ -101,14 +102,14 @@ module _ (file : List ℕ) (at : ℕ) where
       go false e = absurd (h (record_last (ltb-false _ _ e)))
 
   -- So has a name's, and its record is read from it.
-  name-ended : Name ≡ line_record (drop at file) → at + length (up_to 10 (drop at file)) < length file
+  name-ended : Some Name ≡ line_record (drop at file) → at + length (up_to 10 (drop at file)) < length file
   name-ended h = formed-ended (λ m. let z : ◌≡◌ {A = ℕ} 0 1 = cc in omega arith)
 
-  pub name-read : Name ≡ line_record (drop at file) → record_of (up_to 10 (drop at file)) ≡ Name
+  pub name-read : Some Name ≡ line_record (drop at file) → record_of (up_to 10 (drop at file)) ≡ Some Name
   name-read h = sym (record_whole (name-ended h)) ∙ sym h
 
   -- The line is that of the name which was read.
-  pub name_line_told : Name ≡ line_record (drop at file) → {x : List ℕ} → name_line x ≡ line_of (up_to 10 (drop at file)) → first_line (drop at file) ≡ name_line x
+  pub name_line_told : Some Name ≡ line_record (drop at file) → {x : List ℕ} → name_line x ≡ line_of (up_to 10 (drop at file)) → first_line (drop at file) ≡ name_line x
   name_line_told h e = line_whole (name-ended h) ∙ sym e
 
   -- Where lines are ahead, there are bytes.
@@ -128,7 +129,7 @@ pub record LineAt (file : List ℕ) (at : ℕ) (l : Line) (ls : List Line) : Typ
 -- It is there if it is not malformed.
 pub line-ahead :
     (file : List ℕ) (at : ℕ) {l : Line} {ls : List Line}
-    → file_lines (drop at file) ≡ l ∷ ls → (kind_of l ≡ Malformed → ⊥) → LineAt file at l ls
+    → file_lines (drop at file) ≡ l ∷ ls → (kind_of l ≡ None → ⊥) → LineAt file at l ls
 line-ahead file at {l} {ls} e formed =
     let two : first_line (drop at file) ∷ file_lines (drop (at + length (up_to 10 (drop at file)) + 1) file) ≡ l ∷ ls =
     sym (lines-ahead file at (some-ahead file at e)) ∙ e in
@@ -137,14 +138,14 @@ line-ahead file at {l} {ls} e formed =
     record { ended = ended; this = sym (line_whole file at ended) ∙ first; rest = cc }
 
 -- The same of records.
-pub record RecordAt (file : List ℕ) (at : ℕ) (r : Record) (rs : List Record) : Type 0 where
+pub record RecordAt (file : List ℕ) (at : ℕ) (r : Option Record) (rs : List (Option Record)) : Type 0 where
   pub ended : at + length (up_to 10 (drop at file)) < length file
   pub this : record_of (up_to 10 (drop at file)) ≡ r
   pub rest : file_records (drop (at + length (up_to 10 (drop at file)) + 1) file) ≡ rs
 
 pub record-ahead :
-    (file : List ℕ) (at : ℕ) {r : Record} {rs : List Record}
-    → file_records (drop at file) ≡ r ∷ rs → (r ≡ Malformed → ⊥) → RecordAt file at r rs
+    (file : List ℕ) (at : ℕ) {r : Option Record} {rs : List (Option Record)}
+    → file_records (drop at file) ≡ r ∷ rs → (r ≡ None → ⊥) → RecordAt file at r rs
 record-ahead file at {r} {rs} e formed = go (file_lines (drop at file)) refl e
   where
     go : (ls : List Line) → file_lines (drop at file) ≡ ls → map kind_of ls ≡ r ∷ rs → RecordAt file at r rs

@@ -1,7 +1,7 @@
 -- Names of inputs: what the tests of a name say, and its place among others.
 use Prim.Native.Nat.{◌<◌, ◌≤◌, suc, zero, ℕ}
 use Rattle.netlist_model.specs.Limits.{by_name_edition, max_name}
-use Rattle.netlist_model.specs.Names.{Among, IsName, LetterOrDigit, among?, capital, digit, first_lacked, here, name_count, place_of, small, there}
+use Rattle.netlist_model.specs.Names.{Among, IsName, LetterOrDigit, among?, capital, digit, first_lacked, found, here, name_count, place_of, small, there}
 use Rattle.netlist_model.specs.Records.{letter_or_digit?, letters_or_digits?, name?}
 use Rattle.text.proofs.BytesLaws.{same_iff}
 use Rattle.text.specs.Bytes.{same_bytes}
@@ -12,6 +12,7 @@ use lib.ListN.{get_or, length}
 use mathlib.Core.Bool.{Bool, ◌&&◌, ◌||◌, cond, false, true}
 use mathlib.Core.List.{List, [], ◌++◌, ◌∷◌}
 use mathlib.Core.Logic.{⊎_elim}
+use Rattle.std.specs.Prelude.{None, Some, is_some}
 use mathlib.Core.Path.{◌≡◌, ap, refl, subst}
 use native.Mathlib.Decide.{dec_lt}
 use native.Mathlib.Omega.{arith}
@@ -114,6 +115,10 @@ place-among name (x ∷ names) h = go (same_bytes name x) refl h (place-among na
         → (place_of name names < length names → Among name names) → Among name (x ∷ names)
     go true e l rest = subst (λ (y : List ℕ). Among name (y ∷ names)) ((same_iff name x).0 e) here
     go false e l rest = there (rest (omega arith))
+
+-- It is found where it is among them.
+pub found_among : (name : List ℕ) (names : List (List ℕ)) → is_some (found name names) ≡ among? name names
+found_among name names = elim (among? name names) as (λ b. is_some (cond b (Some (place_of name names)) None) ≡ b) [ true ↦ refl | false ↦ refl ]
 
 -- Where all names are among others, none is lacked, and where none is lacked all are among them.
 pub lacked-none : (names others : List (List ℕ)) → ((name : List ℕ) → Among name others → Among name names) → first_lacked names others ≡ length others

@@ -5,7 +5,7 @@ use Rattle.netlist_model.proofs.FrontLaws.{front_names_lem, place-rises}
 use Rattle.netlist_model.proofs.LineLaws.{formed-ended, lines-ahead, lines_end}
 use Rattle.netlist_model.proofs.NameLaws.{count-few}
 use Rattle.netlist_model.proofs.StepLaws.{and_then, ands-few, check_step, constraint-first, constraint_step, gate-cases, gate-first, header-again, header-cases, malformed-refused, name-cases, name-first, output-first, output_step}
-use Rattle.netlist_model.specs.Check.{after_name, ands_of, check_file, check_from, finish, name_given, reached, refused}
+use Rattle.netlist_model.specs.Check.{after_name, ands_of, check_file, check_from, finish, name_given, refused}
 use Rattle.netlist_model.specs.Limits.{max_gates}
 use Rattle.netlist_model.specs.code.Passing.{Counted, Held, Names, NamesThere, Passed, SeenThere, StartInside, at_first, at-later, first_line, front_names, line_due, place_after, seen_by, step_of}
 use Rattle.netlist_model.specs.Records.{Line, constraint_line, file_lines, gate_line, header_line, kind_of, malformed_line, name_line, output_line}
@@ -14,18 +14,13 @@ use Rattle.netlist_model.specs.declared.Due.TheVariants.{First, Later}
 use Rattle.netlist_model.specs.declared.Due.{Due}
 use Rattle.netlist_model.specs.declared.Operation.{Operation}
 use Rattle.netlist_model.specs.declared.Role.{Role}
-use Rattle.netlist_model.specs.declared.Stepped.TheVariants.{Next, Refuse}
-use Rattle.netlist_model.specs.declared.Record.TheVariants.{Malformed}
 use Rattle.table.specs.Limits.{max_inputs, max_outputs}
 use Rattle.text.specs.Split.{up_to}
 use lib.ListN.{drop, length, length-append}
 use mathlib.Core.List.{List, [], ◌++◌, ◌∷◌, append_assoc, append-nil, map, map-append}
+use Rattle.std.specs.Prelude.{None, Result, Ok, Err}
 use mathlib.Core.Path.{◌∙◌, ◌≡◌, ap, refl, subst, sym}
 use native.Mathlib.Omega.{arith}
-
--- The counts of what is due after line 1.
-pub held-later : {b : Body} → Held (Later b) → Counted b
-held-later (at-later h) = h
 
 -- What is due has a number that any line number's type holds.
 pub line_few : {due : Due} → Held due → line_due due ≤ 3 + max_inputs + max_gates + max_outputs
@@ -56,11 +51,16 @@ record Kept (file : List ℕ) (at n : ℕ) (seen : List (List ℕ)) (due : Due) 
   seen-names : seen ≡ seen_by file due
 
 -- A refusal is no next line.
-refusal : {k : ℕ} {due : Due} {A : Type 0} → Refuse k ≡ Next due → A
+refusal : {k : ℕ} {due : Due} {A : Type 0} → ◌≡◌ {A = Result Due ℕ} (Err k) (Ok due) → A
 refusal {k} {due} e = let z : ◌≡◌ {A = ℕ} 0 1 = cc in absurd (omega arith)
 
-next-is : {due other : Due} → Next due ≡ Next other → due ≡ other
+next-is : {due other : Due} → ◌≡◌ {A = Result Due ℕ} (Ok due) (Ok other) → due ≡ other
 next-is e = cc
+
+-- What is due with other numbers of lines read.
+abbrev reached : Body → ℕ → ℕ → ℕ → ℕ → ℕ → ℕ → Body
+reached b name gate output constraint ands reference =
+    record b { name = name; gate = gate; output = output; constraint = constraint; ands = ands; reference = reference }
 
 -- A good line keeps the counts within their limits, and the next line's number is one more.
 module _ (file : List ℕ) (at end : ℕ) where
@@ -69,10 +69,10 @@ module _ (file : List ℕ) (at end : ℕ) where
   Passes l = file_lines (drop at file) ≡ l ∷ file_lines (drop end file)
 
   header-kept : (role : Role) (e i g o : ℕ) {next : Due} → PassedBy file at (First role) → Passes (header_line e i g o)
-      → step_of [] (First role) (header_line e i g o) ≡ Next next → Kept file end 1 [] next
+      → step_of [] (First role) (header_line e i g o) ≡ Ok next → Kept file end 1 [] next
   unfolding line_due front_names
   header-kept role e i g o {next} p lines =
-      header-cases [] role e i g o (λ s. s ≡ Next next → Kept file end 1 [] next) (λ k. refusal) (λ k l. refusal)
+      header-cases [] role e i g o (λ s. s ≡ Ok next → Kept file end 1 [] next) (λ k. refusal) (λ k l. refusal)
       (λ k l f.
       subst (Kept file end 1 []) (next-is f)
       (record {
@@ -150,12 +150,12 @@ module _ (file : List ℕ) (at end : ℕ) where
           seen-names = append-nil (front_names b.name file);
         }
 
-    name-kept : (name : List ℕ) {next : Due} → Passes (name_line name) → step_of (front_names b.name file) (Later b) (name_line name) ≡ Next next
+    name-kept : (name : List ℕ) {next : Due} → Passes (name_line name) → step_of (front_names b.name file) (Later b) (name_line name) ≡ Ok next
         → Kept file end number (front_names b.name file ++ name ∷ []) next
     unfolding line_due number
     name-kept name {next} lines =
         name-cases (front_names b.name file) b name
-        (λ s. s ≡ Next next → Kept file end number (front_names b.name file ++ name ∷ []) next) (λ k. refusal) (λ k l. refusal)
+        (λ s. s ≡ Ok next → Kept file end number (front_names b.name file ++ name ∷ []) next) (λ k. refusal) (λ k l. refusal)
         (λ k l f.
         let one : Passed file end (after_name b) =
         record {
@@ -179,37 +179,37 @@ module _ (file : List ℕ) (at end : ℕ) where
           seen-names = ap (λ (ns : List (List ℕ)). ns ++ name ∷ []) (names-seen p) ∙ sym (names-seen one);
         }))
 
-    gate-kept : (op : Operation) (q r : ℕ) {next : Due} → Passes (gate_line op q r) → step_of (front_names b.name file) (Later b) (gate_line op q r) ≡ Next next
+    gate-kept : (op : Operation) (q r : ℕ) {next : Due} → Passes (gate_line op q r) → step_of (front_names b.name file) (Later b) (gate_line op q r) ≡ Ok next
         → Kept file end number (front_names b.name file ++ []) next
     gate-kept op q r {next} lines =
         gate-cases (front_names b.name file) b op q r
-        (λ s. s ≡ Next next → Kept file end number (front_names b.name file ++ []) next) (λ k. refusal) (λ k l. refusal)
+        (λ s. s ≡ Ok next → Kept file end number (front_names b.name file ++ []) next) (λ k. refusal) (λ k l. refusal)
         (λ k l f.
         subst (Kept file end number (front_names b.name file ++ [])) (next-is f)
         (other-kept (b.gate + 1) b.output b.constraint (b.ands + ands_of op) b.reference lines k.names (omega arith) (omega (arith, k.room))
         h.output h.constraint (omega (arith, h.ands, ands-few op))))
 
-    output-kept : (r : ℕ) {next : Due} → Passes (output_line r) → step_of (front_names b.name file) (Later b) (output_line r) ≡ Next next
+    output-kept : (r : ℕ) {next : Due} → Passes (output_line r) → step_of (front_names b.name file) (Later b) (output_line r) ≡ Ok next
         → Kept file end number (front_names b.name file ++ []) next
     output-kept r {next} lines =
         (output_step (front_names b.name file) b r).cases
-        (λ s. s ≡ Next next → Kept file end number (front_names b.name file ++ []) next) (λ k. refusal) (λ k l. refusal)
+        (λ s. s ≡ Ok next → Kept file end number (front_names b.name file ++ []) next) (λ k. refusal) (λ k l. refusal)
         (λ k l f.
         subst (Kept file end number (front_names b.name file ++ [])) (next-is f)
         (other-kept b.gate (b.output + 1) b.constraint b.ands b.reference lines k.names (omega arith) h.gate (omega (arith, k.room))
         h.constraint h.ands))
 
-    constraint-kept : (r : ℕ) {next : Due} → Passes (constraint_line r) → step_of (front_names b.name file) (Later b) (constraint_line r) ≡ Next next
+    constraint-kept : (r : ℕ) {next : Due} → Passes (constraint_line r) → step_of (front_names b.name file) (Later b) (constraint_line r) ≡ Ok next
         → Kept file end number (front_names b.name file ++ []) next
     constraint-kept r {next} lines =
         (constraint_step (front_names b.name file) b r).cases
-        (λ s. s ≡ Next next → Kept file end number (front_names b.name file ++ []) next) (λ k. refusal) (λ k l. refusal)
+        (λ s. s ≡ Ok next → Kept file end number (front_names b.name file ++ []) next) (λ k. refusal) (λ k l. refusal)
         (λ k l f.
         subst (Kept file end number (front_names b.name file ++ [])) (next-is f)
         (other-kept b.gate b.output (b.constraint + 1) b.ands r lines k.names (omega arith) h.gate h.output (omega (arith, k.room))
         h.ands))
 
-  keeps : {due next : Due} (l : Line) → Held due → PassedBy file at due → Passes l → step_of (seen_by file due) due l ≡ Next next
+  keeps : {due next : Due} (l : Line) → Held due → PassedBy file at due → Passes l → step_of (seen_by file due) due l ≡ Ok next
       → Kept file end (line_due due) (seen_by file due ++ name_given l) next
   unfolding line_due number
   keeps {due = First role} malformed_line at_first p lines e = refusal (sym (malformed-refused [] (First role)) ∙ e)
@@ -279,15 +279,15 @@ module _ {role : Role} {file : List ℕ} {at line : ℕ} {due : Due} (a : Ahead 
         ∙ (rw (lines-ahead file at more) at a.ahead)
 
     -- The line is refused.
-    pub ahead_refuses : (k : ℕ) → step_of (seen_by file due) due (first_line (drop at file)) ≡ Refuse k → refused k line ≡ check_file role file
+    pub ahead_refuses : (k : ℕ) → step_of (seen_by file due) due (first_line (drop at file)) ≡ Err k → refused k line ≡ check_file role file
     ahead_refuses k e = rw e at unrolled
 
-    module _ (next : Due) (e : step_of (seen_by file due) due (first_line (drop at file)) ≡ Next next) where
+    module _ (next : Due) (e : step_of (seen_by file due) due (first_line (drop at file)) ≡ Ok next) where
       -- A line that is passed has its end byte.
       pub ahead-ended : at + length (up_to 10 (drop at file)) < length file
       ahead-ended = formed-ended file at (λ m. go (first_line (drop at file)) m e)
         where
-          go : (l : Line) → kind_of l ≡ Malformed → step_of (seen_by file due) due l ≡ Next next → ⊥
+          go : (l : Line) → kind_of l ≡ None → step_of (seen_by file due) due l ≡ Ok next → ⊥
           go malformed_line m f = refusal (sym (malformed-refused (seen_by file due) due) ∙ f)
           go (header_line x i g o) m f = let z : ◌≡◌ {A = ℕ} 0 1 = cc in omega arith
           go (name_line x) m f = let z : ◌≡◌ {A = ℕ} 0 1 = cc in omega arith

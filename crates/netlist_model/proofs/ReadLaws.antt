@@ -3,30 +3,30 @@ use Prim.Native.Nat.{◌+◌, suc, ℕ}
 use Rattle.netlist_model.proofs.CheckLaws.{Taken, line_after, lines-accepted, lines_constrained, taken}
 use Rattle.netlist_model.proofs.FileLaws.{bytes_read, file_legible, file-written, within-spelled}
 use Rattle.netlist_model.proofs.FrontLaws.{front-formed, front_names_lem, lines_after, names_in_lem}
-use Rattle.netlist_model.proofs.StepLaws.{check_refused, header-edition}
+use Rattle.netlist_model.proofs.StepLaws.{check_refused, edition-kept, edition_numbered, header-edition}
 use Rattle.netlist_model.specs.code.Accepted.{HoldsNetlist, ReadAs, Suits, counts_in, netlist_of, summary_with}
 use Rattle.netlist_model.specs.code.Passing.{Names, NamesThere, front_names, gates_at}
 use Rattle.netlist_model.specs.Check.{Answer, Counts, accepted, answer_of, check_file, constraints_in, gates_in, names_in, netlist_in, outputs_in, read, read_by, read_netlist, refused, summary_counts, unread}
+use Rattle.netlist_model.specs.Limits.{number_of_edition}
 use Rattle.netlist_model.specs.Netlist as netlist
-use Rattle.netlist_model.specs.Netlist.{Netlist, Within, body_lines, body_records, bytes_of, gate_line_of, gate_record, header_line_of, lines_bytes, netlist_lines}
+use Rattle.netlist_model.specs.Netlist.{Netlist, Within, body_lines, body_records, bytes_of, constraint_record, gate_line_of, gate_record, header_line_of, lines_bytes, netlist_lines, output_record}
 use Rattle.netlist_model.specs.Records.{Line, constraint_line, file_lines, kind_of, name_line, output_line, records_in}
-use Rattle.netlist_model.specs.declared.Checked.TheVariants.{Accepted}
 use Rattle.netlist_model.specs.declared.Due.TheVariants.{First}
 use Rattle.netlist_model.specs.declared.Role.TheVariants.{Second}
 use Rattle.netlist_model.specs.declared.Role.{Role}
 use Rattle.netlist_model.specs.declared.Summary.{Summary}
-use Rattle.netlist_model.specs.declared.Record.TheVariants.{Constraint, Malformed, Output}
 use Rattle.netlist_model.specs.declared.Record.{Record}
 use borrow.Author.Tests.{eqb-true}
 use lib.ListN.{drop, length, length-map}
 use lib.Seq.{drop_at}
 use mathlib.Core.List.{List, [], ◌++◌, ◌∷◌, append-nil, map}
+use Rattle.std.specs.Prelude.{Option, None, Ok}
 use mathlib.Core.Path.{◌∙◌, ◌≡◌, ap, ap₂, refl, subst, subst⁻¹, sym}
 use native.Mathlib.Omega.{arith}
 
 -- The records of gates, outputs and constraints, and the same as lines.
-abbrev records : List netlist.Gate → List ℕ → List ℕ → List Record
-records gs os cs = map gate_record gs ++ (map Output os ++ map Constraint cs)
+abbrev records : List netlist.Gate → List ℕ → List ℕ → List (Option Record)
+records gs os cs = map gate_record gs ++ (map output_record os ++ map constraint_record cs)
 
 abbrev lines : List netlist.Gate → List ℕ → List ℕ → List Line
 lines gs os cs = map gate_line_of gs ++ (map output_line os ++ map constraint_line cs)
@@ -72,9 +72,9 @@ constraints-after (x ∷ names) ls = constraints-after names ls
 -- The records of these lines, and the names among them.
 body_records_lem : (gs : List netlist.Gate) (os cs : List ℕ) → records_in (lines gs os cs) ≡ records gs os cs
 body_records_lem [] [] [] = refl
-body_records_lem [] [] (r ∷ cs) = ap (λ (l : List Record). Constraint r ∷ l) (body_records_lem [] [] cs)
-body_records_lem [] (r ∷ os) cs = ap (λ (l : List Record). Output r ∷ l) (body_records_lem [] os cs)
-body_records_lem (g ∷ gs) os cs = ap (λ (l : List Record). gate_record g ∷ l) (body_records_lem gs os cs)
+body_records_lem [] [] (r ∷ cs) = ap (λ (l : List (Option Record)). constraint_record r ∷ l) (body_records_lem [] [] cs)
+body_records_lem [] (r ∷ os) cs = ap (λ (l : List (Option Record)). output_record r ∷ l) (body_records_lem [] os cs)
+body_records_lem (g ∷ gs) os cs = ap (λ (l : List (Option Record)). gate_record g ∷ l) (body_records_lem gs os cs)
 
 no_names : (gs : List netlist.Gate) (os cs : List ℕ) → names_in (lines gs os cs) ≡ []
 unfolding names_in
@@ -103,7 +103,7 @@ netlist_in_lem d =
       constraints_in_lem d.gates d.outputs d.constraints,
     ) refl)
 
-header-formed : (d : Netlist) → kind_of (header_line_of d) ≡ Malformed → ⊥
+header-formed : (d : Netlist) → kind_of (header_line_of d) ≡ None → ⊥
 header-formed d e = let z : ◌≡◌ {A = ℕ} 0 1 = cc in omega arith
 
 -- The names of a file of the lines of a netlist.
@@ -169,7 +169,7 @@ taken_is : {role : Role} {ls : List Line} {c : Counts} (t : Taken c role ls) →
 taken_is t = ap₂ netlist_in t.sums t.lines ∙ netlist_in_lem t.held
 
 -- So it holds that netlist, and is read as it.
-pub accepted-holds : (role : Role) (bytes : List ℕ) (s : Summary) → check_file role bytes ≡ answer_of (Accepted s) → s.start ≡ gates_at bytes s.names
+pub accepted-holds : (role : Role) (bytes : List ℕ) (s : Summary) → check_file role bytes ≡ answer_of (Ok s) → s.start ≡ gates_at bytes s.names
     → ReadAs role bytes s (netlist_of bytes s)
 unfolding netlist_of
 accepted-holds role bytes s e at =
@@ -180,7 +180,7 @@ accepted-holds role bytes s e at =
     (subst⁻¹ (λ (x : Summary). ReadAs role bytes x t.held) sums (lines-read_as role t.within t.suited bytes t.lines))
   where
     summed : {n : ℕ} {c : Counts} → s.start ≡ n → summary_counts s ≡ c → s ≡ summary_with n c
-    summed f g = rw (← f, ← g) refl
+    summed f g = rw (← f, ← g, edition_numbered s.edition) refl
 
 -- The names in the lines of a file that holds a netlist.
 module _ {bytes : List ℕ} {s : Summary} {d : Netlist} (h : HoldsNetlist bytes s d) where
@@ -189,6 +189,10 @@ module _ {bytes : List ℕ} {s : Summary} {d : Netlist} (h : HoldsNetlist bytes 
 
   pub holds-front : front_names s.names bytes ≡ d.names
   holds-front = front_names_lem (names-held d h.lines) s.names (sym (ap (λ (x : Summary). x.names) h.counts))
+
+  -- Its edition has the number that the file says.
+  pub holds-edition : number_of_edition s.edition ≡ d.edition
+  holds-edition = ap (λ (x : Summary). number_of_edition x.edition) h.counts ∙ edition-kept h.within.edition
 
 -- What is read holds the netlist that is given.
 pub read-holds : (role : Role) (bytes : List ℕ) (d : Netlist) → read_netlist role bytes ≡ read d

@@ -5,9 +5,7 @@ use Rattle.netlist_model.specs.Netlist.{fields_of}
 use Rattle.netlist_model.specs.Records.{Line, constraint_line, constraint_in, constraint_of, fields_record, gate_line, gate_in, gate_of, header_line, header_in, header_of, kind_of, laid_out, letter_or_digit?, letters_or_digits?, line_with, name_line, name?, name_in, operation_bytes, operation_of, output_line, output_in, output_of}
 use Rattle.netlist_model.specs.declared.Operation.TheVariants.{And, Or, Xor}
 use Rattle.netlist_model.specs.declared.Operation.{Operation}
-use Rattle.netlist_model.specs.declared.OperationField.TheVariants.{Named, Unknown}
-use Rattle.netlist_model.specs.declared.OperationField.{OperationField}
-use Rattle.netlist_model.specs.declared.Record.TheVariants.{Constraint, Gate, Header, Malformed, Name, Output}
+use Rattle.netlist_model.specs.declared.Record.TheVariants.{Constraint, Gate, Header, Name, Output}
 use Rattle.netlist_model.specs.declared.Record.{Record}
 use Rattle.text.proofs.BytesLaws.{same_iff}
 use Rattle.text.proofs.NumeralLaws.{decimal-lacks, read_decimal, value-decimal}
@@ -15,8 +13,6 @@ use Rattle.text.specs.Bytes.{same_bytes}
 use Rattle.text.specs.Decimal.{decimal}
 use Rattle.text.specs.Numerals.{MAX_DIGITS, numeral_of}
 use Rattle.text.specs.Split.{any_has, has}
-use Rattle.text.specs.declared.numerals.Numeral.TheVariants.{Malformed as Unread, Value}
-use Rattle.text.specs.declared.numerals.Numeral.{Numeral}
 use Rattle.truth.proofs.Booleans.{and_left, and_right, clash, cond_cases}
 use borrow.Author.Tests.{eqb-true}
 use lib.Dec.{eqb, leb}
@@ -24,6 +20,7 @@ use lib.ListN.{drop, drop_of_length-le, get_or, length}
 use lib.Seq.{drop-cons}
 use mathlib.Core.Bool.{Bool, ◌&&◌, false, true}
 use mathlib.Core.List.{List, [], ◌∷◌}
+use Rattle.std.specs.Prelude.{Option, None, Some}
 use mathlib.Core.Path.{◌∙◌, ◌≡◌, ap, refl}
 use native.Mathlib.Omega.{arith}
 
@@ -36,15 +33,15 @@ pub data Spelled : Line → Type 0 where
   constraint : {r : ℕ} → r < 10 ^ MAX_DIGITS → Spelled (constraint_line r)
 
 -- The record of a line with some fields.
-pub kind_with : (r : Record) (fs : List (List ℕ)) → kind_of (line_with r fs) ≡ r
-kind_with (Header e i g o) fs = refl
-kind_with Name fs = refl
-kind_with (Gate op p q) fs = refl
-kind_with (Output r) fs = refl
-kind_with (Constraint r) fs = refl
-kind_with Malformed fs = refl
+pub kind_with : (r : Option Record) (fs : List (List ℕ)) → kind_of (line_with r fs) ≡ r
+kind_with (Some (Header e i g o)) fs = refl
+kind_with (Some Name) fs = refl
+kind_with (Some (Gate op p q)) fs = refl
+kind_with (Some (Output r)) fs = refl
+kind_with (Some (Constraint r)) fs = refl
+kind_with None fs = refl
 
-operation_named : (op : Operation) → operation_of (operation_bytes op) ≡ Named op
+operation_named : (op : Operation) → operation_of (operation_bytes op) ≡ Some op
 unfolding operation_of
 operation_named And = refl
 operation_named Or = refl
@@ -137,15 +134,15 @@ elements-all (suc n) k fs h =
     drop-cons fs k [] (omega arith) ∙ ap (λ (l : List (List ℕ)). get_or fs k [] ∷ l) (elements-all n (suc k) fs (omega arith))
 
 -- What holds of each number with its numeral, and of what is none, holds of each field.
-numeral_cases : (s : List ℕ) (P : Numeral → Type 0) → ((n : ℕ) → s ≡ decimal n → n < 10 ^ MAX_DIGITS → P (Value n)) → P Unread → P (numeral_of s)
+numeral_cases : (s : List ℕ) (P : Option ℕ → Type 0) → ((n : ℕ) → s ≡ decimal n → n < 10 ^ MAX_DIGITS → P (Some n)) → P None → P (numeral_of s)
 numeral_cases s P value none = go (numeral_of s) refl
   where
-    go : (v : Numeral) → numeral_of s ≡ v → P v
-    go (Value n) e = value n (value-decimal s n e).0 (value-decimal s n e).1
-    go Unread e = none
+    go : (v : Option ℕ) → numeral_of s ≡ v → P v
+    go (Some n) e = value n (value-decimal s n e).0 (value-decimal s n e).1
+    go None e = none
 
 -- The same of operations.
-operation_cases : (s : List ℕ) (P : OperationField → Type 0) → ((op : Operation) → s ≡ operation_bytes op → P (Named op)) → P Unknown → P (operation_of s)
+operation_cases : (s : List ℕ) (P : Option Operation → Type 0) → ((op : Operation) → s ≡ operation_bytes op → P (Some op)) → P None → P (operation_of s)
 unfolding operation_of
 operation_cases s P known none =
     cond_cases P (same_bytes s (operation_bytes And)) (λ h. known And ((same_iff s (operation_bytes And)).0 h))
@@ -159,10 +156,10 @@ pub record Written (fs : List (List ℕ)) (l : Line) : Type 0 where
 
 module _ (fs : List (List ℕ)) where
   -- The line with a record, unless it is malformed, is that of the fields.
-  Told : Record → Type 0
-  Told r = (r ≡ Malformed → ⊥) → Written fs (line_with r fs)
+  Told : Option Record → Type 0
+  Told r = (r ≡ None → ⊥) → Written fs (line_with r fs)
 
-  malformed : Told Malformed
+  malformed : Told None
   unfolding Told
   malformed h = absurd (h refl)
 
@@ -177,11 +174,11 @@ module _ (fs : List (List ℕ)) where
       let f4 = numeral_of (get_or fs 4 []) in
       numeral_cases (get_or fs 1 []) (λ v. Told (header_of v f2 f3 f4))
       (λ e he le.
-      numeral_cases (get_or fs 2 []) (λ v. Told (header_of (Value e) v f3 f4))
+      numeral_cases (get_or fs 2 []) (λ v. Told (header_of (Some e) v f3 f4))
       (λ i hi li.
-      numeral_cases (get_or fs 3 []) (λ v. Told (header_of (Value e) (Value i) v f4))
+      numeral_cases (get_or fs 3 []) (λ v. Told (header_of (Some e) (Some i) v f4))
       (λ g hg lg.
-      numeral_cases (get_or fs 4 []) (λ v. Told (header_of (Value e) (Value i) (Value g) v))
+      numeral_cases (get_or fs 4 []) (λ v. Told (header_of (Some e) (Some i) (Some g) v))
       (λ o ho lo n. record { fields = all ∙ rw (letter, he, hi, hg, ho) refl; spelled = header le li lg lo })
       malformed)
       malformed)
@@ -205,9 +202,9 @@ module _ (fs : List (List ℕ)) where
       let f3 = numeral_of (get_or fs 3 []) in
       operation_cases (get_or fs 1 []) (λ v. Told (gate_of v f2 f3))
       (λ op hop.
-      numeral_cases (get_or fs 2 []) (λ v. Told (gate_of (Named op) v f3))
+      numeral_cases (get_or fs 2 []) (λ v. Told (gate_of (Some op) v f3))
       (λ p hp lp.
-      numeral_cases (get_or fs 3 []) (λ v. Told (gate_of (Named op) (Value p) v))
+      numeral_cases (get_or fs 3 []) (λ v. Told (gate_of (Some op) (Some p) v))
       (λ q hq lq n. record { fields = all ∙ rw (letter, hop, hp, hq) refl; spelled = gate lp lq })
       malformed)
       malformed)
@@ -232,7 +229,7 @@ module _ (fs : List (List ℕ)) where
       malformed
 
   -- Whatever is read as a record is the fields of its line.
-  pub read-written : (fields_record fs ≡ Malformed → ⊥) → Written fs (line_with (fields_record fs) fs)
+  pub read-written : (fields_record fs ≡ None → ⊥) → Written fs (line_with (fields_record fs) fs)
   unfolding Told fields_record
   read-written =
       cond_cases Told (laid_out 5 (78 ∷ []) fs) header-told
@@ -240,10 +237,3 @@ module _ (fs : List (List ℕ)) where
       (λ i. cond_cases Told (laid_out 4 (71 ∷ []) fs) gate-told
       (λ k. cond_cases Told (laid_out 2 (79 ∷ []) fs) output-told
       (λ l. cond_cases Told (laid_out 2 (67 ∷ []) fs) constraint-told (λ m. malformed)))))
-
--- The fields of a name's line are two.
-pub name-fields : (fs : List (List ℕ)) → fields_record fs ≡ Name → length fs ≡ 2
-unfolding fields_of
-name-fields fs h =
-    let w = read-written fs (λ m. let z : ◌≡◌ {A = ℕ} 0 1 = cc in omega arith) in
-    ap length (rw h at w.fields)

@@ -2,18 +2,18 @@
 use Prim.Native.Nat.{◌*◌, ◌+◌, ◌<◌, ◌≤◌, ℕ}
 use Rattle.netlist_model.proofs.NameLaws.{among-place, place-among}
 use Rattle.netlist_model.specs.Check.{Answer, accepted, after_constraint, after_gate, after_header, after_name, after_output, ands_of, below?, check_from, counts_of, due?, due_after, finish, formed?, header?, known?, limited?, line_tests, more?, name_given, refused, suits?, twice?}
-use Rattle.netlist_model.specs.Limits.{by_name_edition, by_place_edition, max_gates}
+use Rattle.netlist_model.specs.Limits.{by_name_edition, by_place_edition, edition_of, max_gates, number_of_edition}
 use Rattle.netlist_model.specs.Names.{Among, among?, place_of}
 use Rattle.netlist_model.specs.Records.{Line, constraint_line, gate_line, header_line, kind_of, line_with, malformed_line, name_line, output_line}
-use Rattle.netlist_model.specs.code.Passing.{step_of}
+use Rattle.netlist_model.specs.code.Passing.{known_edition, step_of}
 use Rattle.netlist_model.specs.declared.Body.{Body}
 use Rattle.netlist_model.specs.declared.Due.TheVariants.{First, Later}
 use Rattle.netlist_model.specs.declared.Due.{Due}
-use Rattle.netlist_model.specs.declared.Stepped.TheVariants.{Next, Refuse}
-use Rattle.netlist_model.specs.declared.Stepped.{Stepped}
+use Rattle.netlist_model.specs.declared.edition.Edition.TheVariants.{ByName, ByPlace}
+use Rattle.netlist_model.specs.declared.edition.Edition.{Edition}
 use Rattle.netlist_model.specs.declared.Operation.TheVariants.{And, Or, Xor}
 use Rattle.netlist_model.specs.declared.Operation.{Operation}
-use Rattle.netlist_model.specs.declared.Record.TheVariants.{Constraint, Gate, Header, Malformed, Name, Output}
+use Rattle.netlist_model.specs.declared.Record.TheVariants.{Constraint, Gate, Header, Name, Output}
 use Rattle.netlist_model.specs.declared.Record.{Record}
 use Rattle.netlist_model.specs.declared.Role.{Role}
 use Rattle.table.specs.Limits.{max_inputs, max_outputs}
@@ -25,13 +25,14 @@ use lib.ListN.{length}
 use mathlib.Core.Bool.{Bool, ◌&&◌, ◌||◌, cond, false, not, true}
 use mathlib.Core.List.{List, [], ◌++◌, ◌∷◌}
 use mathlib.Core.Logic.{◌⊎◌, inl, inr, ⊎_elim}
+use Rattle.std.specs.Prelude.{None, Option, Some, Result, Ok, Err}
 use mathlib.Core.Path.{◌∙◌, ◌≡◌, ap, refl}
 use native.Mathlib.Omega.{arith}
 
 -- A refusal at line n, or what follows.
-abbrev pub and_then : ℕ → Stepped → (Due → Answer) → Answer
-and_then n (Refuse k) rest = refused k n
-and_then n (Next due) rest = rest due
+abbrev pub and_then : ℕ → Result Due ℕ → (Due → Answer) → Answer
+and_then n (Err k) rest = refused k n
+and_then n (Ok due) rest = rest due
 
 -- The lines from line n on: what the first comes to, and then the others.
 pub check_step : (n : ℕ) (seen : List (List ℕ)) (due : Due) (l : Line) (ls : List Line)
@@ -41,51 +42,102 @@ check_step n seen due l ls = go (eqb (first_refusal 0 (line_tests seen due l)) 0
   where
     go : (b : Bool)
         → cond b (check_from (n + 1) (seen ++ name_given l) (due_after due (kind_of l)) ls) (refused (first_refusal 0 (line_tests seen due l)) n)
-        ≡ and_then n (cond b (Next (due_after due (kind_of l))) (Refuse (first_refusal 0 (line_tests seen due l)))) (λ next. check_from (n + 1) (seen ++ name_given l) next ls)
+        ≡ and_then n (cond b (Ok (due_after due (kind_of l))) (Err (first_refusal 0 (line_tests seen due l)))) (λ next. check_from (n + 1) (seen ++ name_given l) next ls)
     go true = refl
     go false = refl
 
 -- A line that is passed.
-pub check_next : (n : ℕ) (seen : List (List ℕ)) (due next : Due) (l : Line) (ls : List Line) → step_of seen due l ≡ Next next
+pub check_next : (n : ℕ) (seen : List (List ℕ)) (due next : Due) (l : Line) (ls : List Line) → step_of seen due l ≡ Ok next
     → check_from n seen due (l ∷ ls) ≡ check_from (n + 1) (seen ++ name_given l) next ls
 check_next n seen due next l ls e = check_step n seen due l ls ∙ (rw e refl)
 
 -- A line that is refused.
-pub check_refused : (n : ℕ) (seen : List (List ℕ)) (due : Due) (l : Line) (ls : List Line) (k : ℕ) → step_of seen due l ≡ Refuse k
+pub check_refused : (n : ℕ) (seen : List (List ℕ)) (due : Due) (l : Line) (ls : List Line) (k : ℕ) → step_of seen due l ≡ Err k
     → check_from n seen due (l ∷ ls) ≡ refused k n
 check_refused n seen due l ls k e = check_step n seen due l ls ∙ (rw e refl)
 
 -- What each line comes to, whatever names are in earlier lines.
 module _ (seen : List (List ℕ)) where
   -- A malformed line, whatever is due.
-  pub malformed-refused : (due : Due) → step_of seen due malformed_line ≡ Refuse 2
-  unfolding step_of first_refusal formed? header? known? limited? due? below? twice?
+  pub malformed-refused : (due : Due) → step_of seen due malformed_line ≡ Err 2
+  unfolding step_of first_refusal formed? header? known? limited? twice?
   malformed-refused (First role) = refl
   malformed-refused (Later b) = refl
 
   -- A name, a gate, an output or a constraint in line 1.
-  pub name-first : (role : Role) (name : List ℕ) → step_of seen (First role) (name_line name) ≡ Refuse 5
+  pub name-first : (role : Role) (name : List ℕ) → step_of seen (First role) (name_line name) ≡ Err 5
   unfolding step_of first_refusal formed? header? known? limited?
   name-first role name = refl
 
-  pub gate-first : (role : Role) (op : Operation) (p q : ℕ) → step_of seen (First role) (gate_line op p q) ≡ Refuse 5
+  pub gate-first : (role : Role) (op : Operation) (p q : ℕ) → step_of seen (First role) (gate_line op p q) ≡ Err 5
   unfolding step_of first_refusal formed? header? known? limited?
   gate-first role op p q = refl
 
-  pub output-first : (role : Role) (r : ℕ) → step_of seen (First role) (output_line r) ≡ Refuse 5
+  pub output-first : (role : Role) (r : ℕ) → step_of seen (First role) (output_line r) ≡ Err 5
   unfolding step_of first_refusal formed? header? known? limited?
   output-first role r = refl
 
-  pub constraint-first : (role : Role) (r : ℕ) → step_of seen (First role) (constraint_line r) ≡ Refuse 5
+  pub constraint-first : (role : Role) (r : ℕ) → step_of seen (First role) (constraint_line r) ≡ Err 5
   unfolding step_of first_refusal formed? header? known? limited?
   constraint-first role r = refl
 
   -- Line 1 again.
-  pub header-again : (b : Body) (e i g o : ℕ) → step_of seen (Later b) (header_line e i g o) ≡ Refuse 5
-  unfolding step_of first_refusal formed? due? below? twice?
+  pub header-again : (b : Body) (e i g o : ℕ) → step_of seen (Later b) (header_line e i g o) ≡ Err 5
+  unfolding step_of first_refusal formed? twice?
   header-again b e i g o = refl
 
--- In line 1, and in the lines of gates, outputs and constraints, the names in earlier lines decide nothing.
+-- A later line that is no malformed one, by the tests after that of its layout.
+module _ (seen : List (List ℕ)) (b : Body) (l : Line) (r : Record) where
+  formed-some : formed? (Some r) ≡ true
+  unfolding formed?
+  formed-some = elim r as (λ x. formed? (Some x) ≡ true) [ Header e i g o ↦ refl | Name ↦ refl | Gate op p q ↦ refl | Output x ↦ refl | Constraint x ↦ refl ]
+
+  pub later_step : Some r ≡ kind_of l → step_of seen (Later b) l
+      ≡ cond {A = Result Due ℕ} (due? b (Some r)) (cond (below? b (Some r)) (cond (twice? seen l) (Err 18) (Ok (due_after (Later b) (Some r)))) (Err 6)) (Err 5)
+  unfolding step_of first_refusal
+  later_step h = rw (← h, formed-some) (go (due? b (Some r)) (below? b (Some r)) (twice? seen l))
+    where
+      go : (x y z : Bool)
+          → cond {A = Result Due ℕ} (eqb (cond (not x) 5 (cond (not y) 6 (cond z 18 0))) 0) (Ok (due_after (Later b) (Some r))) (Err (cond (not x) 5 (cond (not y) 6 (cond z 18 0))))
+          ≡ cond {A = Result Due ℕ} x (cond y (cond z (Err 18) (Ok (due_after (Later b) (Some r)))) (Err 6)) (Err 5)
+      go false y z = refl
+      go true false z = refl
+      go true true true = refl
+      go true true false = refl
+
+-- Line 1, by its tests after that of its kind.
+pub header_step : (role : Role) (e i g o : ℕ) → step_of [] (First role) (header_line e i g o)
+    ≡ cond {A = Result Due ℕ} ((eqb e by_place_edition || eqb e by_name_edition) && suits? role e)
+    (cond (leb i max_inputs && leb g max_gates && leb 1 o && leb o max_outputs) (Ok (Later (after_header role e i g o))) (Err 4)) (Err 3)
+unfolding step_of first_refusal formed? header? known? limited? due_after
+header_step role e i g o =
+    go ((eqb e by_place_edition || eqb e by_name_edition) && suits? role e) (leb i max_inputs && leb g max_gates && leb 1 o && leb o max_outputs)
+  where
+    go : (x y : Bool)
+        → cond {A = Result Due ℕ} (eqb (cond (not x) 3 (cond (not y) 4 0)) 0) (Ok (Later (after_header role e i g o))) (Err (cond (not x) 3 (cond (not y) 4 0)))
+        ≡ cond {A = Result Due ℕ} x (cond y (Ok (Later (after_header role e i g o))) (Err 4)) (Err 3)
+    go false y = refl
+    go true false = refl
+    go true true = refl
+
+-- Another line in its place.
+pub first_other : (role : Role) (r : Record) → ((e i g o : ℕ) → r ≡ Header e i g o → ⊥) → step_of [] (First role) (line_with (Some r) []) ≡ Err 5
+first_other role (Header e i g o) h = absurd (h e i g o refl)
+first_other role Name h = name-first [] role []
+first_other role (Gate op p q) h = gate-first [] role op p q
+first_other role (Output r) h = output-first [] role r
+first_other role (Constraint r) h = constraint-first [] role r
+
+-- A malformed line, whatever is due.
+pub unread-refused : (seen : List (List ℕ)) (due : Due) (l : Line) → None ≡ kind_of l → step_of seen due l ≡ Err 2
+unread-refused seen due malformed_line h = malformed-refused seen due
+unread-refused seen due (header_line e i g o) h = cc
+unread-refused seen due (name_line name) h = cc
+unread-refused seen due (gate_line op p q) h = cc
+unread-refused seen due (output_line r) h = cc
+unread-refused seen due (constraint_line r) h = cc
+
+-- In line 1 the names in earlier lines decide nothing.
 pub first_unseen : (role : Role) (l : Line) → step_of [] (First role) l ≡ step_of [] (First role) (line_with (kind_of l) [])
 unfolding step_of first_refusal formed? header? known? limited? due_after
 first_unseen role (header_line e i g o) = refl
@@ -95,36 +147,50 @@ first_unseen role (output_line r) = refl
 first_unseen role (constraint_line r) = refl
 first_unseen role malformed_line = refl
 
+-- A line that is no name's repeats none.
+pub not_twice : (seen : List (List ℕ)) (l : Line) → (kind_of l ≡ Some Name → ⊥) → twice? seen l ≡ false
+unfolding twice?
+not_twice seen (name_line name) h = absurd (h refl)
+not_twice seen (header_line e i g o) h = refl
+not_twice seen (gate_line op p q) h = refl
+not_twice seen (output_line r) h = refl
+not_twice seen (constraint_line r) h = refl
+not_twice seen malformed_line h = refl
+
+-- In the lines of gates, outputs and constraints, the names in earlier lines decide nothing.
 module _ (seen : List (List ℕ)) (b : Body) where
+  -- In a gate's.
   pub gate_unseen : (op : Operation) (p q : ℕ) → step_of seen (Later b) (gate_line op p q) ≡ step_of [] (Later b) (gate_line op p q)
-  unfolding step_of first_refusal formed? due? below? twice? due_after
+  unfolding step_of first_refusal formed? twice? due_after
   gate_unseen op p q = refl
 
+  -- In an output's.
   pub output_unseen : (r : ℕ) → step_of seen (Later b) (output_line r) ≡ step_of [] (Later b) (output_line r)
-  unfolding step_of first_refusal formed? due? below? twice? due_after
+  unfolding step_of first_refusal formed? twice? due_after
   output_unseen r = refl
 
+  -- In a constraint's.
   pub constraint_unseen : (r : ℕ) → step_of seen (Later b) (constraint_line r) ≡ step_of [] (Later b) (constraint_line r)
-  unfolding step_of first_refusal formed? due? below? twice? due_after
+  unfolding step_of first_refusal formed? twice? due_after
   constraint_unseen r = refl
 
--- A record that is no name's.
-abbrev pub NoName : Record → Type 0
-NoName (Header e i g o) = Unit
-NoName Name = ⊥
-NoName (Gate op p q) = Unit
-NoName (Output r) = Unit
-NoName (Constraint r) = Unit
-NoName Malformed = Unit
+-- No record, or one that is no name's.
+abbrev pub NoName : Option Record → Type 0
+NoName (Some (Header e i g o)) = Unit
+NoName (Some Name) = ⊥
+NoName (Some (Gate op p q)) = Unit
+NoName (Some (Output r)) = Unit
+NoName (Some (Constraint r)) = Unit
+NoName None = Unit
 
 -- A line that is no name's is told by its record.
-pub line_told : (l : Line) {r : Record} → kind_of l ≡ r → NoName r → l ≡ line_with r []
-line_told (header_line e i g o) {r} h k = ap (λ (x : Record). line_with x []) h
+pub line_told : (l : Line) {r : Option Record} → kind_of l ≡ r → NoName r → l ≡ line_with r []
+line_told (header_line e i g o) {r} h k = ap (λ (x : Option Record). line_with x []) h
 line_told (name_line name) {r} h k = absurd (rw (← h) at k)
-line_told (gate_line op p q) {r} h k = ap (λ (x : Record). line_with x []) h
-line_told (output_line x) {r} h k = ap (λ (x : Record). line_with x []) h
-line_told (constraint_line x) {r} h k = ap (λ (x : Record). line_with x []) h
-line_told malformed_line {r} h k = ap (λ (x : Record). line_with x []) h
+line_told (gate_line op p q) {r} h k = ap (λ (x : Option Record). line_with x []) h
+line_told (output_line x) {r} h k = ap (λ (x : Option Record). line_with x []) h
+line_told (constraint_line x) {r} h k = ap (λ (x : Option Record). line_with x []) h
+line_told malformed_line {r} h k = ap (λ (x : Option Record). line_with x []) h
 
 -- The counts of line 1 within their limits.
 pub record Limited (i g o : ℕ) : Type 0 where
@@ -137,6 +203,14 @@ pub record Limited (i g o : ℕ) : Type 0 where
 pub record Known (role : Role) (e : ℕ) : Type 0 where
   pub either : (e ≡ by_place_edition) ⊎ (e ≡ by_name_edition)
   pub same : suits? role e ≡ true
+
+-- The edition of such a number has that number, and each edition is that of its number.
+pub edition-kept : {e : ℕ} → (e ≡ by_place_edition) ⊎ (e ≡ by_name_edition) → number_of_edition (edition_of e) ≡ e
+edition-kept h = ⊎_elim (λ k. rw k refl) (λ k. rw k refl) h
+
+pub edition_numbered : (x : Edition) → edition_of (number_of_edition x) ≡ x
+edition_numbered ByPlace = refl
+edition_numbered ByName = refl
 
 -- The test of it.
 module _ (role : Role) (e : ℕ) where
@@ -156,13 +230,35 @@ module _ (role : Role) (e : ℕ) where
       k.either in
       clash (rw one k.same) h
 
+-- So it is in a line 1 that passes test 3.
+pub known-kept : (role : Role) (e i g o : ℕ) → known? role (Some (Header e i g o)) ≡ true → number_of_edition (edition_of e) ≡ e
+unfolding known?
+known-kept role e i g o h = edition-kept (known_is role e h).either
+
+-- The edition that a number is read as, or none.
+pub known_told : (role : Role) (e : ℕ) {x : Edition} → known_edition role e ≡ Some x
+    → (((eqb e by_place_edition || eqb e by_name_edition) && suits? role e) ≡ true) × (edition_of e ≡ x) × (number_of_edition x ≡ e)
+known_told role e {x} h = go ((eqb e by_place_edition || eqb e by_name_edition) && suits? role e) refl h
+  where
+    go : (t : Bool) → ((eqb e by_place_edition || eqb e by_name_edition) && suits? role e) ≡ t → cond t (Some (edition_of e)) None ≡ Some x
+        → (((eqb e by_place_edition || eqb e by_name_edition) && suits? role e) ≡ true) × (edition_of e ≡ x) × (number_of_edition x ≡ e)
+    go true k f = let one : edition_of e ≡ x = cc in (k, one, rw one at (edition-kept (known_is role e k).either))
+    go false k f = cc
+
+pub unknown_told : (role : Role) (e : ℕ) → known_edition role e ≡ None → ((eqb e by_place_edition || eqb e by_name_edition) && suits? role e) ≡ false
+unknown_told role e h = go ((eqb e by_place_edition || eqb e by_name_edition) && suits? role e) h
+  where
+    go : (t : Bool) → cond t (Some (edition_of e)) None ≡ None → t ≡ false
+    go true f = cc
+    go false f = refl
+
 module _ (seen : List (List ℕ)) (role : Role) (e i g o : ℕ) where
   -- What holds of each outcome of line 1, where it is reached, holds of the step.
   pub header-cases :
-      (P : Stepped → Type 0)
-      → ((Known role e → ⊥) → P (Refuse 3))
-      → (Known role e → (Limited i g o → ⊥) → P (Refuse 4))
-      → (Known role e → Limited i g o → P (Next (Later (after_header role e i g o))))
+      (P : Result Due ℕ → Type 0)
+      → ((Known role e → ⊥) → P (Err 3))
+      → (Known role e → (Limited i g o → ⊥) → P (Err 4))
+      → (Known role e → Limited i g o → P (Ok (Later (after_header role e i g o))))
       → P (step_of seen (First role) (header_line e i g o))
   unfolding step_of first_refusal formed? header? known? limited? due_after
   header-cases P other beyond next = go ((eqb e by_place_edition || eqb e by_name_edition) && suits? role e) (a && b && c && d) refl refl
@@ -180,7 +276,7 @@ module _ (seen : List (List ℕ)) (role : Role) (e i g o : ℕ) where
       d = leb o max_outputs
 
       go : (x y : Bool) → ((eqb e by_place_edition || eqb e by_name_edition) && suits? role e) ≡ x → (a && b && c && d) ≡ y
-          → P (cond (eqb (cond (not x) 3 (cond (not y) 4 0)) 0) (Next (Later (after_header role e i g o))) (Refuse (cond (not x) 3 (cond (not y) 4 0))))
+          → P (cond (eqb (cond (not x) 3 (cond (not y) 4 0)) 0) (Ok (Later (after_header role e i g o))) (Err (cond (not x) 3 (cond (not y) 4 0))))
       go false y h k = other (unknown-is role e h)
       go true false h k =
           beyond (known_is role e h)
@@ -198,45 +294,37 @@ module _ (seen : List (List ℕ)) (role : Role) (e i g o : ℕ) where
           })
 
   -- Another edition.
-  pub header-edition : (Known role e → ⊥) → step_of seen (First role) (header_line e i g o) ≡ Refuse 3
-  header-edition h = header-cases (λ s. s ≡ Refuse 3) (λ k. refl) (λ k l. absurd (h k)) (λ k l. absurd (h k))
-
-  -- A count beyond its limit.
-  pub header-beyond : Known role e → (Limited i g o → ⊥) → step_of seen (First role) (header_line e i g o) ≡ Refuse 4
-  header-beyond h k = header-cases (λ s. s ≡ Refuse 4) (λ l. absurd (l h)) (λ l m. refl) (λ l m. absurd (k m))
+  pub header-edition : (Known role e → ⊥) → step_of seen (First role) (header_line e i g o) ≡ Err 3
+  header-edition h = header-cases (λ s. s ≡ Err 3) (λ k. refl) (λ k l. absurd (h k)) (λ k l. absurd (h k))
 
   -- A good line 1.
-  pub header-next : Known role e → Limited i g o → step_of seen (First role) (header_line e i g o) ≡ Next (Later (after_header role e i g o))
-  header-next h k = header-cases (λ s. s ≡ Next (Later (after_header role e i g o))) (λ l. absurd (l h)) (λ l m. absurd (m k)) (λ l m. refl)
+  pub header-next : Known role e → Limited i g o → step_of seen (First role) (header_line e i g o) ≡ Ok (Later (after_header role e i g o))
+  header-next h k = header-cases (λ s. s ≡ Ok (Later (after_header role e i g o))) (λ l. absurd (l h)) (λ l m. absurd (m k)) (λ l m. refl)
 
 module _ (seen : List (List ℕ)) (b : Body) (name : List ℕ) where
   -- The same of a name's line.
   pub name-cases :
-      (P : Stepped → Type 0)
-      → (b.names ≤ b.name → P (Refuse 5))
-      → (b.name < b.names → Among name seen → P (Refuse 18))
-      → (b.name < b.names → (Among name seen → ⊥) → P (Next (Later (after_name b))))
+      (P : Result Due ℕ → Type 0)
+      → (b.names ≤ b.name → P (Err 5))
+      → (b.name < b.names → Among name seen → P (Err 18))
+      → (b.name < b.names → (Among name seen → ⊥) → P (Ok (Later (after_name b))))
       → P (step_of seen (Later b) (name_line name))
-  unfolding step_of first_refusal formed? due? below? twice? due_after
+  unfolding step_of first_refusal formed? twice? due_after
   name-cases P extra again next = go (ltb b.name b.names) (among? name seen) refl refl
     where
       go : (x y : Bool) → ltb b.name b.names ≡ x → among? name seen ≡ y
-          → P (cond (eqb (cond (not x) 5 (cond y 18 0)) 0) (Next (Later (after_name b))) (Refuse (cond (not x) 5 (cond y 18 0))))
+          → P (cond (eqb (cond (not x) 5 (cond y 18 0)) 0) (Ok (Later (after_name b))) (Err (cond (not x) 5 (cond y 18 0))))
       go false y h k = extra (ltb-false _ _ h)
       go true true h k = again (ltb-true _ _ h) (place-among name seen (ltb-true _ _ k))
       go true false h k = next (ltb-true _ _ h) (λ a. clash (lt-ltb (place_of name seen) (length seen) (among-place a)) k)
 
   -- A name where none is due.
-  pub name_extra : b.names ≤ b.name → step_of seen (Later b) (name_line name) ≡ Refuse 5
-  name_extra h = name-cases (λ s. s ≡ Refuse 5) (λ k. refl) (λ k l. absurd (omega arith)) (λ k l. absurd (omega arith))
-
-  -- A name that stands in an earlier line.
-  pub name-twice : b.name < b.names → Among name seen → step_of seen (Later b) (name_line name) ≡ Refuse 18
-  name-twice h k = name-cases (λ s. s ≡ Refuse 18) (λ l. absurd (omega arith)) (λ l m. refl) (λ l m. absurd (m k))
+  pub name_extra : b.names ≤ b.name → step_of seen (Later b) (name_line name) ≡ Err 5
+  name_extra h = name-cases (λ s. s ≡ Err 5) (λ k. refl) (λ k l. absurd (omega arith)) (λ k l. absurd (omega arith))
 
   -- A good name.
-  pub name-next : b.name < b.names → (Among name seen → ⊥) → step_of seen (Later b) (name_line name) ≡ Next (Later (after_name b))
-  name-next h k = name-cases (λ s. s ≡ Next (Later (after_name b))) (λ l. absurd (omega arith)) (λ l m. absurd (k m)) (λ l m. refl)
+  pub name-next : b.name < b.names → (Among name seen → ⊥) → step_of seen (Later b) (name_line name) ≡ Ok (Later (after_name b))
+  name-next h k = name-cases (λ s. s ≡ Ok (Later (after_name b))) (λ l. absurd (omega arith)) (λ l m. absurd (k m)) (λ l m. refl)
 
 -- A gate stands for at most three ANDs.
 pub ands-few : (op : Operation) → ands_of op ≤ 3
@@ -257,12 +345,12 @@ pub record GateFits (b : Body) (p q : ℕ) : Type 0 where
 module _ (seen : List (List ℕ)) (b : Body) (op : Operation) (p q : ℕ) where
   -- The same of a gate line.
   pub gate-cases :
-      (P : Stepped → Type 0)
-      → ((GateDue b → ⊥) → P (Refuse 5))
-      → (GateDue b → (GateFits b p q → ⊥) → P (Refuse 6))
-      → (GateDue b → GateFits b p q → P (Next (Later (after_gate op b))))
+      (P : Result Due ℕ → Type 0)
+      → ((GateDue b → ⊥) → P (Err 5))
+      → (GateDue b → (GateFits b p q → ⊥) → P (Err 6))
+      → (GateDue b → GateFits b p q → P (Ok (Later (after_gate op b))))
       → P (step_of seen (Later b) (gate_line op p q))
-  unfolding step_of first_refusal formed? due? below? twice? due_after
+  unfolding step_of first_refusal formed? twice? due_after
   gate-cases P extra beyond next = go (named && more) (ltb p n && ltb q n) refl refl
     where
       n : ℕ
@@ -278,52 +366,44 @@ module _ (seen : List (List ℕ)) (b : Body) (op : Operation) (p q : ℕ) where
       due h = record { names = eqb-true _ _ (and_left named more h); room = ltb-true _ _ (and_right named more h) }
 
       go : (x y : Bool) → (named && more) ≡ x → (ltb p n && ltb q n) ≡ y
-          → P (cond (eqb (cond (not x) 5 (cond (not y) 6 0)) 0) (Next (Later (after_gate op b))) (Refuse (cond (not x) 5 (cond (not y) 6 0))))
+          → P (cond (eqb (cond (not x) 5 (cond (not y) 6 0)) 0) (Ok (Later (after_gate op b))) (Err (cond (not x) 5 (cond (not y) 6 0))))
       go false y h k = extra (λ f. clash (rw (eq-eqb _ _ f.names) (lt-ltb _ _ f.room)) h)
       go true false h k = beyond (due h) (λ f. clash (rw (lt-ltb p n f.left) (lt-ltb q n f.right)) k)
       go true true h k =
           next (due h) (record { left = ltb-true p n (and_left (ltb p n) (ltb q n) k); right = ltb-true q n (and_right (ltb p n) (ltb q n) k) })
 
   -- A gate where none is due.
-  pub gate_extra : (GateDue b → ⊥) → step_of seen (Later b) (gate_line op p q) ≡ Refuse 5
-  gate_extra h = gate-cases (λ s. s ≡ Refuse 5) (λ k. refl) (λ k l. absurd (h k)) (λ k l. absurd (h k))
-
-  -- A reference that is not below its gate.
-  pub gate-beyond : GateDue b → (GateFits b p q → ⊥) → step_of seen (Later b) (gate_line op p q) ≡ Refuse 6
-  gate-beyond h k = gate-cases (λ s. s ≡ Refuse 6) (λ l. absurd (l h)) (λ l m. refl) (λ l m. absurd (k m))
+  pub gate_extra : (GateDue b → ⊥) → step_of seen (Later b) (gate_line op p q) ≡ Err 5
+  gate_extra h = gate-cases (λ s. s ≡ Err 5) (λ k. refl) (λ k l. absurd (h k)) (λ k l. absurd (h k))
 
   -- A good gate.
-  pub gate-next : GateDue b → GateFits b p q → step_of seen (Later b) (gate_line op p q) ≡ Next (Later (after_gate op b))
-  gate-next h k = gate-cases (λ s. s ≡ Next (Later (after_gate op b))) (λ l. absurd (l h)) (λ l m. absurd (m k)) (λ l m. refl)
+  pub gate-next : GateDue b → GateFits b p q → step_of seen (Later b) (gate_line op p q) ≡ Ok (Later (after_gate op b))
+  gate-next h k = gate-cases (λ s. s ≡ Ok (Later (after_gate op b))) (λ l. absurd (l h)) (λ l m. absurd (m k)) (λ l m. refl)
 
 -- What a line with one reference comes to: 5 where it is not due, 6 where the reference is not below a bound, else what is due next.
-pub record ReferenceLine (D : Type 0) (n r : ℕ) (due : Due) (s : Stepped) : Type 1 where
-  pub cases : (P : Stepped → Type 0) → ((D → ⊥) → P (Refuse 5)) → (D → n ≤ r → P (Refuse 6)) → (D → r < n → P (Next due)) → P s
+pub record ReferenceLine (D : Type 0) (n r : ℕ) (due : Due) (s : Result Due ℕ) : Type 1 where
+  pub cases : (P : Result Due ℕ → Type 0) → ((D → ⊥) → P (Err 5)) → (D → n ≤ r → P (Err 6)) → (D → r < n → P (Ok due)) → P s
 
 -- So it is by its two tests, where the first says whether it is due.
 reference_line : {D : Type 0} (n r : ℕ) (due : Due) (x : Bool) → (x ≡ true → D) → (D → x ≡ true)
     → ReferenceLine D n r due
-    (cond (eqb (cond (not x) 5 (cond (not (ltb r n)) 6 0)) 0) (Next due) (Refuse (cond (not x) 5 (cond (not (ltb r n)) 6 0))))
+    (cond (eqb (cond (not x) 5 (cond (not (ltb r n)) 6 0)) 0) (Ok due) (Err (cond (not x) 5 (cond (not (ltb r n)) 6 0))))
 reference_line {D} n r due x holds told = record { cases = λ P extra beyond next. go P extra beyond next x (ltb r n) refl refl }
   where
-    go : (P : Stepped → Type 0) → ((D → ⊥) → P (Refuse 5)) → (D → n ≤ r → P (Refuse 6)) → (D → r < n → P (Next due)) → (y z : Bool) → x ≡ y → ltb r n ≡ z
-        → P (cond (eqb (cond (not y) 5 (cond (not z) 6 0)) 0) (Next due) (Refuse (cond (not y) 5 (cond (not z) 6 0))))
+    go : (P : Result Due ℕ → Type 0) → ((D → ⊥) → P (Err 5)) → (D → n ≤ r → P (Err 6)) → (D → r < n → P (Ok due)) → (y z : Bool) → x ≡ y → ltb r n ≡ z
+        → P (cond (eqb (cond (not y) 5 (cond (not z) 6 0)) 0) (Ok due) (Err (cond (not y) 5 (cond (not z) 6 0))))
     go P extra beyond next false z h k = extra (λ d. clash (told d) h)
     go P extra beyond next true false h k = beyond (holds h) (ltb-false _ _ k)
     go P extra beyond next true true h k = next (holds h) (ltb-true _ _ k)
 
-module _ {D : Type 0} {n r : ℕ} {due : Due} {s : Stepped} (l : ReferenceLine D n r due s) where
+module _ {D : Type 0} {n r : ℕ} {due : Due} {s : Result Due ℕ} (l : ReferenceLine D n r due s) where
   -- One where none is due.
-  pub reference_extra : (D → ⊥) → s ≡ Refuse 5
-  reference_extra h = l.cases (λ x. x ≡ Refuse 5) (λ k. refl) (λ k m. absurd (h k)) (λ k m. absurd (h k))
-
-  -- A reference that is not below the bound.
-  pub reference-beyond : D → n ≤ r → s ≡ Refuse 6
-  reference-beyond h k = l.cases (λ x. x ≡ Refuse 6) (λ m. absurd (m h)) (λ m o. refl) (λ m o. absurd (omega arith))
+  pub reference_extra : (D → ⊥) → s ≡ Err 5
+  reference_extra h = l.cases (λ x. x ≡ Err 5) (λ k. refl) (λ k m. absurd (h k)) (λ k m. absurd (h k))
 
   -- A good line.
-  pub reference-next : D → r < n → s ≡ Next due
-  reference-next h k = l.cases (λ x. x ≡ Next due) (λ m. absurd (m h)) (λ m o. absurd (omega arith)) (λ m o. refl)
+  pub reference-next : D → r < n → s ≡ Ok due
+  reference-next h k = l.cases (λ x. x ≡ Ok due) (λ m. absurd (m h)) (λ m o. absurd (omega arith)) (λ m o. refl)
 
 -- An output is due where the names and gates are read and outputs are left.
 pub record OutputDue (b : Body) : Type 0 where
@@ -334,7 +414,7 @@ pub record OutputDue (b : Body) : Type 0 where
 -- An output's line.
 pub output_step : (seen : List (List ℕ)) (b : Body) (r : ℕ)
     → ReferenceLine (OutputDue b) (2 * (1 + b.inputs + b.gates)) r (Later (after_output b)) (step_of seen (Later b) (output_line r))
-unfolding step_of first_refusal formed? due? below? twice? due_after
+unfolding step_of first_refusal formed? twice? due_after
 output_step seen b r =
     reference_line (2 * (1 + b.inputs + b.gates)) r (Later (after_output b)) (named && drawn && more) due
     (λ f. rw (eq-eqb _ _ f.names, eq-eqb _ _ f.gates) (lt-ltb _ _ f.room))
@@ -367,7 +447,7 @@ pub record ConstraintDue (b : Body) : Type 0 where
 -- A constraint's line.
 pub constraint_step : (seen : List (List ℕ)) (b : Body) (r : ℕ)
     → ReferenceLine (ConstraintDue b) (2 * (1 + b.inputs + b.gates)) r (Later (after_constraint r b)) (step_of seen (Later b) (constraint_line r))
-unfolding step_of first_refusal formed? due? below? twice? due_after
+unfolding step_of first_refusal formed? twice? due_after
 constraint_step seen b r =
     reference_line (2 * (1 + b.inputs + b.gates)) r (Later (after_constraint r b)) (drawn && all && more) due
     (λ f. rw (eq-eqb _ _ f.names, eq-eqb _ _ f.gates, eq-eqb _ _ f.outputs) (lt-ltb _ _ f.room))
@@ -397,6 +477,20 @@ pub record Done (b : Body) : Type 0 where
   pub names : b.name ≡ b.names
   pub gates : b.gate ≡ b.gates
   pub outputs : b.output ≡ b.outputs
+
+-- The end, by its test.
+pub finish_step : (n : ℕ) (b : Body) → finish n (Later b)
+    ≡ cond (eqb b.name b.names && eqb b.gate b.gates && eqb b.output b.outputs) (accepted (counts_of (Later b))) (refused 5 n)
+unfolding finish first_refusal more?
+finish_step n b = go (eqb b.name b.names && eqb b.gate b.gates && eqb b.output b.outputs)
+  where
+    go : (x : Bool) → cond (eqb (cond (not x) 5 0) 0) (accepted (counts_of (Later b))) (refused (cond (not x) 5 0) n) ≡ cond x (accepted (counts_of (Later b))) (refused 5 n)
+    go true = refl
+    go false = refl
+
+pub finish_first : (n : ℕ) (role : Role) → finish n (First role) ≡ refused 5 n
+unfolding finish first_refusal more?
+finish_first n role = refl
 
 module _ (n : ℕ) (b : Body) where
   -- The same of the end.

@@ -1,23 +1,23 @@
 -- A file read line by line: the tests 2 to 6 and 18, and the netlist that an accepted file holds. (RULES 9.1)
-use Rattle.std.specs.Prelude.{◌*◌, ◌+◌, ℕ, eqb, leb, ltb, Bool, ◌&&◌, ◌||◌, cond, false, not, true, List, [], ◌++◌, ◌∷◌}
-use Rattle.netlist_model.specs.Limits.{by_name_edition, by_place_edition, max_gates}
+use Rattle.std.specs.Prelude.{◌*◌, ◌+◌, ℕ, eqb, leb, ltb, Bool, ◌&&◌, ◌||◌, cond, false, not, true, List, [], ◌++◌, ◌∷◌, Option, None, Some, Result, Err, Ok}
+use Rattle.netlist_model.specs.Limits.{by_name_edition, by_place_edition, edition_of, max_gates, number_of_edition}
 use Rattle.netlist_model.specs.Names.{among?, name_count}
 use Rattle.netlist_model.specs.Netlist as netlist
 use Rattle.netlist_model.specs.Netlist.{Netlist}
 use Rattle.netlist_model.specs.Records.{Line, constraint_line, file_lines, gate_line, header_line, kind_of, malformed_line, name_line, output_line, records_in}
 use Rattle.netlist_model.specs.declared.Body.{Body}
-use Rattle.netlist_model.specs.declared.Checked.TheVariants.{Accepted, Refused}
-use Rattle.netlist_model.specs.declared.Checked.{Checked}
 use Rattle.netlist_model.specs.declared.Due.TheVariants.{First, Later}
 use Rattle.netlist_model.specs.declared.Due.{Due}
+use Rattle.netlist_model.specs.declared.Rejected.{Rejected}
 use Rattle.netlist_model.specs.declared.Summary.{Summary}
 use Rattle.netlist_model.specs.declared.Operation.TheVariants.{And, Or, Xor}
 use Rattle.netlist_model.specs.declared.Operation.{Operation}
-use Rattle.netlist_model.specs.declared.Record.TheVariants.{Constraint, Gate, Header, Malformed, Name, Output}
+use Rattle.netlist_model.specs.declared.Record.TheVariants.{Constraint, Gate, Header, Name, Output}
 use Rattle.netlist_model.specs.declared.Record.{Record}
 use Rattle.netlist_model.specs.declared.Role.TheVariants as role
 use Rattle.netlist_model.specs.declared.Role.TheVariants.{Second}
 use Rattle.netlist_model.specs.declared.Role.{Role}
+use Rattle.refusal.specs.Number.{number_of}
 use Rattle.table.specs.Limits.{max_inputs, max_outputs}
 use Rattle.table.specs.Refusals.{Test, first_refusal}
 
@@ -28,22 +28,22 @@ ands_of Or = 1
 ands_of Xor = 3
 
 -- "2. The line is not an N, I, G, O or C record of this layout or has no end byte.": whether it is one. (RULES 8.1)
-unfoldable pub formed? : Record → Bool
-formed? Malformed = false
-formed? (Header e i g o) = true
-formed? Name = true
-formed? (Gate op p q) = true
-formed? (Output r) = true
-formed? (Constraint r) = true
+unfoldable pub formed? : Option Record → Bool
+formed? None = false
+formed? (Some (Header e i g o)) = true
+formed? (Some Name) = true
+formed? (Some (Gate op p q)) = true
+formed? (Some (Output r)) = true
+formed? (Some (Constraint r)) = true
 
 -- "5. The line is .. not of the kind due there": whether it is the header that is due in line 1. (RULES 8.1)
-unfoldable pub header? : Record → Bool
-header? (Header e i g o) = true
-header? Name = false
-header? (Gate op p q) = false
-header? (Output r) = false
-header? (Constraint r) = false
-header? Malformed = false
+unfoldable pub header? : Option Record → Bool
+header? (Some (Header e i g o)) = true
+header? (Some Name) = false
+header? (Some (Gate op p q)) = false
+header? (Some (Output r)) = false
+header? (Some (Constraint r)) = false
+header? None = false
 
 -- "or a second file of another edition": whether the edition is that of the first file. A first file may have either. (RULES 8.1)
 abbrev pub suits? : Role → ℕ → Bool
@@ -51,25 +51,25 @@ suits? role.First e = true
 suits? (Second first) e = eqb e first
 
 -- "3 now means an edition other than 1 or 2, or a second file of another edition": whether it is neither. (RULES 8.1)
-unfoldable pub known? : Role → Record → Bool
-known? role (Header e i g o) = (eqb e by_place_edition || eqb e by_name_edition) && suits? role e
-known? role Name = false
-known? role (Gate op p q) = false
-known? role (Output r) = false
-known? role (Constraint r) = false
-known? role Malformed = false
+unfoldable pub known? : Role → Option Record → Bool
+known? role (Some (Header e i g o)) = (eqb e by_place_edition || eqb e by_name_edition) && suits? role e
+known? role (Some Name) = false
+known? role (Some (Gate op p q)) = false
+known? role (Some (Output r)) = false
+known? role (Some (Constraint r)) = false
+known? role None = false
 
 -- "4. A count in line 1 is beyond its limit.": whether none is. (RULES 8.1)
-unfoldable pub limited? : Record → Bool
-limited? (Header e i g o) = leb i max_inputs && leb g max_gates && leb 1 o && leb o max_outputs
-limited? Name = false
-limited? (Gate op p q) = false
-limited? (Output r) = false
-limited? (Constraint r) = false
-limited? Malformed = false
+unfoldable pub limited? : Option Record → Bool
+limited? (Some (Header e i g o)) = leb i max_inputs && leb g max_gates && leb 1 o && leb o max_outputs
+limited? (Some Name) = false
+limited? (Some (Gate op p q)) = false
+limited? (Some (Output r)) = false
+limited? (Some (Constraint r)) = false
+limited? None = false
 
 -- "Within line 1 the order is 2, 5, 3, 4" (RULES 9.2)
-abbrev pub first_tests : Role → Record → List (Test ℕ)
+abbrev pub first_tests : Role → Option Record → List (Test ℕ)
 first_tests role r =
     record { answer = 2; applies = not (formed? r) }
     ∷ record { answer = 5; applies = not (header? r) }
@@ -79,24 +79,24 @@ first_tests role r =
 
 -- "5. The line is .. extra, or not of the kind due there": whether it is a name's and names are left, a gate's and only gates and outputs
 -- are, an output's and only outputs are, or a constraint's, where one may still come, and none of these are. (RULES 1.13, 8.1)
-unfoldable pub due? : Body → Record → Bool
-due? b Name = ltb b.name b.names
-due? b (Gate op p q) = eqb b.name b.names && ltb b.gate b.gates
-due? b (Output r) = eqb b.name b.names && eqb b.gate b.gates && ltb b.output b.outputs
-due? b (Constraint r) =
+abbrev pub due? : Body → Option Record → Bool
+due? b (Some Name) = ltb b.name b.names
+due? b (Some (Gate op p q)) = eqb b.name b.names && ltb b.gate b.gates
+due? b (Some (Output r)) = eqb b.name b.names && eqb b.gate b.gates && ltb b.output b.outputs
+due? b (Some (Constraint r)) =
     eqb b.name b.names && eqb b.gate b.gates && eqb b.output b.outputs && ltb b.constraint b.constraints
-due? b (Header e i g o) = false
-due? b Malformed = false
+due? b (Some (Header e i g o)) = false
+due? b None = false
 
 -- "6. A reference is not below twice its gate's vertex number or, in an output, twice the number of vertices.": whether all are; a name's
 -- line has none. "refusals 6 and 11 cover r as they do an output" (RULES 1.13, 8.1)
-unfoldable pub below? : Body → Record → Bool
-below? b (Gate op p q) = ltb p (2 * (1 + b.inputs + b.gate)) && ltb q (2 * (1 + b.inputs + b.gate))
-below? b (Output r) = ltb r (2 * (1 + b.inputs + b.gates))
-below? b (Constraint r) = ltb r (2 * (1 + b.inputs + b.gates))
-below? b Name = true
-below? b (Header e i g o) = false
-below? b Malformed = false
+abbrev pub below? : Body → Option Record → Bool
+below? b (Some (Gate op p q)) = ltb p (2 * (1 + b.inputs + b.gate)) && ltb q (2 * (1 + b.inputs + b.gate))
+below? b (Some (Output r)) = ltb r (2 * (1 + b.inputs + b.gates))
+below? b (Some (Constraint r)) = ltb r (2 * (1 + b.inputs + b.gates))
+below? b (Some Name) = true
+below? b (Some (Header e i g o)) = false
+below? b None = false
 
 -- "18 a name twice in a file": whether the name that a line gives stands in an earlier line. (RULES 8.1)
 unfoldable pub twice? : List (List ℕ) → Line → Bool
@@ -139,7 +139,7 @@ constraints_due (Second first) = 0
 abbrev pub after_header : Role → ℕ → ℕ → ℕ → ℕ → Body
 after_header role edition inputs gates outputs =
     record {
-      edition = edition;
+      edition = edition_of edition;
       inputs = inputs;
       names = name_count edition inputs;
       gates = gates;
@@ -153,51 +153,33 @@ after_header role edition inputs gates outputs =
       reference = 1;
     }
 
--- The same with other numbers of names, gates, outputs and constraints read, of the ANDs that these gates stand for, and another reference.
-abbrev pub reached : Body → ℕ → ℕ → ℕ → ℕ → ℕ → ℕ → Body
-reached b name gate output constraint ands reference =
-    record {
-      edition = b.edition;
-      inputs = b.inputs;
-      names = b.names;
-      gates = b.gates;
-      outputs = b.outputs;
-      constraints = b.constraints;
-      name = name;
-      gate = gate;
-      output = output;
-      constraint = constraint;
-      ands = ands;
-      reference = reference;
-    }
-
 -- What is due after a line with a name, a gate, an output or a constraint: one more is read.
 abbrev pub after_name : Body → Body
-after_name b = reached b (b.name + 1) b.gate b.output b.constraint b.ands b.reference
+after_name b = record b { name = b.name + 1 }
 
 abbrev pub after_gate : Operation → Body → Body
-after_gate op b = reached b b.name (b.gate + 1) b.output b.constraint (b.ands + ands_of op) b.reference
+after_gate op b = record b { gate = b.gate + 1; ands = b.ands + ands_of op }
 
 abbrev pub after_output : Body → Body
-after_output b = reached b b.name b.gate (b.output + 1) b.constraint b.ands b.reference
+after_output b = record b { output = b.output + 1 }
 
 abbrev pub after_constraint : ℕ → Body → Body
-after_constraint r b = reached b b.name b.gate b.output (b.constraint + 1) b.ands r
+after_constraint r b = record b { constraint = b.constraint + 1; reference = r }
 
 -- What is due after a line that passed its tests.
-unfoldable pub due_after : Due → Record → Due
-due_after (First role) (Header e i g o) = Later (after_header role e i g o)
-due_after (First role) Name = First role
-due_after (First role) (Gate op p q) = First role
-due_after (First role) (Output r) = First role
-due_after (First role) (Constraint r) = First role
-due_after (First role) Malformed = First role
-due_after (Later b) Name = Later (after_name b)
-due_after (Later b) (Gate op p q) = Later (after_gate op b)
-due_after (Later b) (Output r) = Later (after_output b)
-due_after (Later b) (Constraint r) = Later (after_constraint r b)
-due_after (Later b) (Header e i g o) = Later b
-due_after (Later b) Malformed = Later b
+unfoldable pub due_after : Due → Option Record → Due
+due_after (First role) (Some (Header e i g o)) = Later (after_header role e i g o)
+due_after (First role) (Some Name) = First role
+due_after (First role) (Some (Gate op p q)) = First role
+due_after (First role) (Some (Output r)) = First role
+due_after (First role) (Some (Constraint r)) = First role
+due_after (First role) None = First role
+due_after (Later b) (Some Name) = Later (after_name b)
+due_after (Later b) (Some (Gate op p q)) = Later (after_gate op b)
+due_after (Later b) (Some (Output r)) = Later (after_output b)
+due_after (Later b) (Some (Constraint r)) = Later (after_constraint r b)
+due_after (Later b) (Some (Header e i g o)) = Later b
+due_after (Later b) None = Later b
 
 -- The names that a line gives: one, or none.
 abbrev pub name_given : Line → List (List ℕ)
@@ -232,7 +214,7 @@ pub data Answer : Type 0 where
 abbrev pub summary_counts : Summary → Counts
 summary_counts s =
     record {
-      edition = s.edition;
+      edition = number_of_edition s.edition;
       inputs = s.inputs;
       names = s.names;
       gates = s.gates;
@@ -242,16 +224,16 @@ summary_counts s =
     }
 
 -- The rules' number and values for each case of the result. (RULES 8.1)
-abbrev pub answer_of : Checked → Answer
-answer_of (Accepted s) = accepted (summary_counts s)
-answer_of (Refused k n) = refused k n
+abbrev pub answer_of : Result Summary Rejected → Answer
+answer_of (Ok s) = accepted (summary_counts s)
+answer_of (Err e) = refused (number_of e.refusal) e.line
 
 -- The counts when all lines are passed.
 abbrev pub counts_of : Due → Counts
 counts_of (First role) = record { edition = 0; inputs = 0; names = 0; gates = 0; outputs = 0; ands = 0; reference = 1 }
 counts_of (Later b) =
     record {
-      edition = b.edition;
+      edition = number_of_edition b.edition;
       inputs = b.inputs;
       names = b.names;
       gates = b.gates;
@@ -280,34 +262,34 @@ unfoldable pub check_file : Role → List ℕ → Answer
 check_file role bytes = check_from 1 [] (First role) (file_lines bytes)
 
 -- The gates of some records, in order.
-unfoldable pub gates_in : List Record → List netlist.Gate
+unfoldable pub gates_in : List (Option Record) → List netlist.Gate
 gates_in [] = []
-gates_in (Gate op p q ∷ rs) = record { op = op; p = p; q = q } ∷ gates_in rs
-gates_in (Header e i g o ∷ rs) = gates_in rs
-gates_in (Name ∷ rs) = gates_in rs
-gates_in (Output r ∷ rs) = gates_in rs
-gates_in (Constraint r ∷ rs) = gates_in rs
-gates_in (Malformed ∷ rs) = gates_in rs
+gates_in (Some (Gate op p q) ∷ rs) = record { op = op; p = p; q = q } ∷ gates_in rs
+gates_in (Some (Header e i g o) ∷ rs) = gates_in rs
+gates_in (Some Name ∷ rs) = gates_in rs
+gates_in (Some (Output r) ∷ rs) = gates_in rs
+gates_in (Some (Constraint r) ∷ rs) = gates_in rs
+gates_in (None ∷ rs) = gates_in rs
 
 -- The outputs of some records, in order.
-unfoldable pub outputs_in : List Record → List ℕ
+unfoldable pub outputs_in : List (Option Record) → List ℕ
 outputs_in [] = []
-outputs_in (Output r ∷ rs) = r ∷ outputs_in rs
-outputs_in (Header e i g o ∷ rs) = outputs_in rs
-outputs_in (Name ∷ rs) = outputs_in rs
-outputs_in (Gate op p q ∷ rs) = outputs_in rs
-outputs_in (Constraint r ∷ rs) = outputs_in rs
-outputs_in (Malformed ∷ rs) = outputs_in rs
+outputs_in (Some (Output r) ∷ rs) = r ∷ outputs_in rs
+outputs_in (Some (Header e i g o) ∷ rs) = outputs_in rs
+outputs_in (Some Name ∷ rs) = outputs_in rs
+outputs_in (Some (Gate op p q) ∷ rs) = outputs_in rs
+outputs_in (Some (Constraint r) ∷ rs) = outputs_in rs
+outputs_in (None ∷ rs) = outputs_in rs
 
 -- The constraints of some records, in order.
-unfoldable pub constraints_in : List Record → List ℕ
+unfoldable pub constraints_in : List (Option Record) → List ℕ
 constraints_in [] = []
-constraints_in (Constraint r ∷ rs) = r ∷ constraints_in rs
-constraints_in (Header e i g o ∷ rs) = constraints_in rs
-constraints_in (Name ∷ rs) = constraints_in rs
-constraints_in (Gate op p q ∷ rs) = constraints_in rs
-constraints_in (Output r ∷ rs) = constraints_in rs
-constraints_in (Malformed ∷ rs) = constraints_in rs
+constraints_in (Some (Constraint r) ∷ rs) = r ∷ constraints_in rs
+constraints_in (Some (Header e i g o) ∷ rs) = constraints_in rs
+constraints_in (Some Name ∷ rs) = constraints_in rs
+constraints_in (Some (Gate op p q) ∷ rs) = constraints_in rs
+constraints_in (Some (Output r) ∷ rs) = constraints_in rs
+constraints_in (None ∷ rs) = constraints_in rs
 
 -- The netlist of some lines, given the edition and the inputs of line 1.
 abbrev pub netlist_in : Counts → List Line → Netlist

@@ -1,5 +1,5 @@
 -- Names of inputs: what a name is, and its place among others.
-use Rattle.std.specs.Prelude.{◌≤◌, ◌<◌, suc, ℕ, eqb, ltb, get_or, length, Bool, cond, List, [], ◌++◌, ◌∷◌}
+use Rattle.std.specs.Prelude.{◌≤◌, ◌<◌, suc, ℕ, eqb, ltb, get_or, length, Bool, cond, List, [], ◌++◌, ◌∷◌, Option, None, Some}
 use Rattle.netlist_model.specs.Limits.{by_name_edition}
 use Rattle.text.specs.Bytes.{same_bytes}
 
@@ -20,6 +20,18 @@ among? name names = ltb (place_of name names) (length names)
 unfoldable pub first_lacked : List (List ℕ) → List (List ℕ) → ℕ
 first_lacked names [] = 0
 first_lacked names (x ∷ others) = cond (among? x names) (suc (first_lacked names others)) 0
+
+-- A place, where it is one of so many: where it is their number, nothing is there. (RULES 1.11, 8.1)
+abbrev pub place_in : ℕ → ℕ → Option ℕ
+place_in n k = cond (ltb k n) (Some k) None
+
+-- The place of a name among names, where it is there. (RULES 1.11)
+abbrev pub found : List ℕ → List (List ℕ) → Option ℕ
+found name names = place_in (length names) (place_of name names)
+
+-- "19 a name that the first file lacks": the place of the first of the others that is not among names, where there is one. (RULES 8.1)
+abbrev pub lacked : List (List ℕ) → List (List ℕ) → Option ℕ
+lacked names others = place_in (length others) (first_lacked names others)
 
 -- It is among them.
 pub data Among (name : List ℕ) : List (List ℕ) → Type 0 where

@@ -1,5 +1,5 @@
 -- A netlist, and the bytes of its file.
-use Rattle.std.specs.Prelude.{◌*◌, ◌+◌, ◌<◌, ◌≤◌, suc, ℕ, get_or, length, List, [], ◌++◌, ◌∷◌, map, ◌⊎◌, ◌≡◌}
+use Rattle.std.specs.Prelude.{◌*◌, ◌+◌, ◌<◌, ◌≤◌, suc, ℕ, get_or, length, List, [], ◌++◌, ◌∷◌, map, ◌⊎◌, ◌≡◌, Option, Some}
 use Rattle.netlist_model.specs.Names.{NewNames}
 use Rattle.netlist_model.specs.Records.{Line, constraint_line, gate_line, header_line, malformed_line, name_line, operation_bytes, output_line}
 use Rattle.netlist_model.specs.declared.Operation.{Operation}
@@ -56,13 +56,21 @@ pub record Within (d : Netlist) : Type 0 where
   pub constraints : length d.constraints ≤ 1
   pub constraint-below : AllBelow (2 * (1 + d.inputs + length d.gates)) d.constraints
 
--- The record of a gate.
-abbrev pub gate_record : Gate → Record
-gate_record g = kinds.Gate g.op g.p g.q
+-- The record of a gate. (RULES 1.4)
+abbrev pub gate_record : Gate → Option Record
+gate_record g = Some (kinds.Gate g.op g.p g.q)
+
+-- The record of an output. (RULES 1.5)
+abbrev pub output_record : ℕ → Option Record
+output_record r = Some (Output r)
+
+-- The record of a constraint. (RULES 1.13)
+abbrev pub constraint_record : ℕ → Option Record
+constraint_record r = Some (Constraint r)
 
 -- The records of the gates, then of the outputs, then of the constraint.
-unfoldable pub body_records : Netlist → List Record
-body_records d = map gate_record d.gates ++ (map Output d.outputs ++ map Constraint d.constraints)
+unfoldable pub body_records : Netlist → List (Option Record)
+body_records d = map gate_record d.gates ++ (map output_record d.outputs ++ map constraint_record d.constraints)
 
 -- "Line 1: `N⇥edition⇥inputs⇥gates⇥outputs`." (RULES 1.3)
 abbrev pub header_line_of : Netlist → Line

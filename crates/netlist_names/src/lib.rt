@@ -1,65 +1,84 @@
 // The names in a file's I lines, which come after line 1.
 #![tactic(auto)]
 
-ghost use Rattle.std.specs.Prelude.{◌≤◌, drop, length, ◌≡◌};
-ghost use Rattle.netlist_model.specs.Names.{first_lacked, place_of};
+ghost use Rattle.std.specs.Prelude.{◌≤◌, drop, length, Some, ◌≡◌};
+ghost use Rattle.netlist_model.specs.Names.{found, lacked};
 ghost use Rattle.netlist_model.specs.Records.{line_of, name_line, record_of};
 ghost use Rattle.netlist_model.specs.code.Passing.{NamesThere, front_names, place_after};
-ghost use Rattle.text.specs.Bytes.{same_bytes};
+ghost use Rattle.std.specs.Iterator.{YieldsFirstBy, item_count};
+ghost use Rattle.netlist_names.specs.code.Walk.{names_ahead, names_from};
 ghost use Rattle.text.specs.Split.{up_to};
 
 use netlist_model::Record;
 use netlist_records::{lines, records};
 
-// The name in the I line that starts at `at`.
+// The name in the I line that starts at `at`. A file and a place in it are no struct: `Summary::start` is such a place, and loading goes on there.
 pub fn name_at(file: &[u8], at: usize) -> &[u8]
     requires at_in_bounds { at ≤ length file.now }
-    requires file_value { record_of (up_to 10 (drop at file.now)) ≡ Record.Name }
+    requires file_value { record_of (up_to 10 (drop at file.now)) ≡ Some Record.Name }
     ensures { name_line result.now ≡ line_of (up_to 10 (drop at file.now)) }
 {
     records::name_in(text::until(file, at, lines::LINE_END))
 }
 
-// The place of a name among the first `count` names of a file, or `count`.
-pub fn find_name(file: &[u8], count: u32, name: &[u8]) -> u32
-    requires { NamesThere file.now count }
-    ensures { result ≡ place_of name.now (front_names count file.now) }
-{
-    let mut at = lines::line_end(file, 0);
-    let mut k: u32 = 0;
-    while k < count {
-        if is_same(name, name_at(file, at)) {
-            return k;
+// The names in the I lines from a place on.
+#[derive(Drop)]
+pub struct Names<'a> {
+    pub file: &'a [u8],
+    pub at: usize,
+    pub left: u32,
+    ghost there: { left ≤ names_ahead file.now at },
+}
+
+impl<'a> Iterator for Names<'a> {
+    ghost use Rattle.netlist_names.specs.code.Left.{names_left};
+
+    type Item = &'a [u8];
+
+    ghost next_gives = { YieldsFirstBy (λ name. name.now) names_left };
+
+    ghost remaining = { item_count names_left };
+
+    fn next(&mut self) -> Option<&'a [u8]> {
+        if self.left == 0 {
+            return None;
         }
-        at = lines::line_end(file, at);
-        k += 1;
+        let name = name_at(self.file, self.at);
+        self.at = lines::line_end(self.file, self.at);
+        self.left -= 1;
+        Some(name)
     }
-    count
 }
 
-// Whether two names are the same: all their bytes are.
-fn is_same(name: &[u8], other: &[u8]) -> bool
-    ensures { result ≡ same_bytes name.now other.now }
+// The first `count` names of a file.
+pub fn front_names(file: &[u8], count: u32) -> Names<'_>
+    requires { NamesThere file.now count }
+    ensures { names_from result.file.now result.at result.left ≡ front_names count file.now }
 {
-    text::same(name, other)
+    Names {
+        file,
+        at: lines::line_end(file, 0),
+        left: count,
+    }
 }
 
-// The place of the first of the second file's first `count` names that the first file's lack, or `count`.
-pub fn first_lacked(left: &[u8], right: &[u8], count: u32) -> u32
+// The place of a name among the first `count` names of a file, if it is there.
+pub fn find_name(file: &[u8], count: u32, name: &[u8]) -> Option<u32>
+    requires { NamesThere file.now count }
+    ensures { result ≡ found name.now (front_names count file.now) }
+{
+    let place = front_names(file, count).position(|other| text::same(name, other))?;
+    Some(place as u32)
+}
+
+// The place of the first of the second file's first `count` names that the first file's lack, if there is one.
+pub fn first_lacked(left: &[u8], right: &[u8], count: u32) -> Option<u32>
     requires names_there { NamesThere left.now count }
     requires names_there_2 { NamesThere right.now count }
-    ensures { result ≡ first_lacked (front_names count left.now) (front_names count right.now) }
+    ensures { result ≡ lacked (front_names count left.now) (front_names count right.now) }
 {
-    let mut at = lines::line_end(right, 0);
-    let mut k: u32 = 0;
-    while k < count {
-        if count <= find_name(left, count, name_at(right, at)) {
-            return k;
-        }
-        at = lines::line_end(right, at);
-        k += 1;
-    }
-    count
+    let place = front_names(right, count).position(|name| find_name(left, count, name).is_none())?;
+    Some(place as u32)
 }
 
 // The place after the first `count` lines of a file.
@@ -68,10 +87,8 @@ pub fn place_after(file: &[u8], count: u32) -> usize
     ensures { result ≡ place_after file.now count }
 {
     let mut at = 0;
-    let mut k: u32 = 0;
-    while k < count {
+    for _ in 0..count {
         at = at + text::until(file, at, lines::LINE_END).len() + 1;
-        k += 1;
     }
     at
 }

@@ -8,12 +8,48 @@ use netlist_model::Record;
 
 pub const LINE_END: u8 = b'\n';
 
-// The record of the line that starts at `at`.
-pub fn read_line(file: &[u8], at: usize) -> Record
+// The record of the line that starts at `at`, if it has the layout of one. A file and a place in it are no struct: `netlist_model::Summary::start` is such
+// a place, and loading goes on there.
+pub fn read_line(file: &[u8], at: usize) -> Option<Record>
     requires { at ≤ length file.now }
     ensures { result ≡ record_of (up_to 10 (drop at file.now)) }
 {
     records::read_record(text::until(file, at, LINE_END))
+}
+
+// The places at which the lines of a file start.
+#[derive(Drop)]
+pub struct Starts<'a> {
+    pub file: &'a [u8],
+    pub at: usize,
+}
+
+impl<'a> Iterator for Starts<'a> {
+    ghost use Rattle.netlist_records.specs.code.Starts.{GivesStart, bytes_left};
+    ghost use Rattle.std.specs.Iterator.{at_most};
+
+    type Item = usize;
+
+    ghost next_gives = { GivesStart };
+
+    ghost remaining = { λ s. at_most (bytes_left s) };
+
+    fn next(&mut self) -> Option<usize> {
+        let at = self.at;
+        if self.file.len() <= at {
+            return None;
+        }
+        self.at = at + text::until(self.file, at, LINE_END).len() + 1;
+        Some(at)
+    }
+}
+
+// Those from the first on.
+pub fn line_starts(file: &[u8]) -> Starts<'_>
+    ensures file { result.file.now ≡ file.now }
+    ensures at { result.at ≡ 0 }
+{
+    Starts { file, at: 0 }
 }
 
 // The place after the end byte of the line that starts at `at`.

@@ -11,8 +11,9 @@ use Rattle.product_model.proofs.Run.{run-done, run-rows, run-steps}
 use Rattle.product_model.proofs.Store.{done-members, done-rows}
 use Rattle.product_model.specs.code.Books.{Proper, Stored}
 use Rattle.product.specs.Product.{Ask, Multiplied, Multiplies, book_of}
-use Rattle.product.specs.declared.Product.TheVariants.{Done, ShortOfRows, ShortOfSteps}
-use Rattle.product.specs.declared.Product.{Product}
+use Rattle.product.specs.declared.steps.Short.TheVariants.{Rows as OfRows, Steps as OfSteps}
+use Rattle.product.specs.declared.steps.Short.{Short}
+use Rattle.std.specs.Prelude.{Err, Ok, Result}
 use Rattle.truth.specs.Distinct.{among, distinct}
 use Rattle.truth.specs.Parts.{alike?, parts}
 use Rattle.truth.specs.Steps as truth
@@ -49,9 +50,9 @@ pub record OutOfSteps (s : List ℕ) (f g left steps most k : ℕ) : Type 0 wher
   pub full : k ≡ most
   pub over : most < steps + steps_of_pair s left f g
 
-module _ {s : List ℕ} {limit used f g left steps most : ℕ} (K : Ask s limit used f g left steps most) where
+module _ {s : List ℕ} {limit used f g left n most : ℕ} (K : Ask s limit used f g left n most) where
   -- The store is a book that a run may start from, and it has the parts of what is stored.
-  proper : Proper limit most (book_of s used steps)
+  proper : Proper limit most (book_of s used n)
   proper =
       record {
         no_repeats = store_apart s used K.store.canonical used (omega arith);
@@ -64,39 +65,39 @@ module _ {s : List ℕ} {limit used f g left steps most : ℕ} (K : Ask s limit 
 
   module _ {t : List ℕ} {u k : ℕ} where
     -- The run that the answer tells of, as a law of runs.
-    pub done-ran : {r : ℕ} → Multiplied s t limit used f g left steps most (Done r u k)
-        → ran.Done limit most (parts_of_pair s left f g) (steps_of_pair s left f g) (book_of s used steps) (book_of t u k)
+    pub done-ran : {r : ℕ} → Multiplied s t limit used u f g left n k most (Ok r)
+        → ran.Done limit most (parts_of_pair s left f g) (steps_of_pair s left f g) (book_of s used n) (book_of t u k)
     done-ran M = run-done (denote-perfect s left f) (denote-perfect s left g) proper (stored f K.first) (stored g K.second) M.ran
 
-    pub rows-ran : Multiplied s t limit used f g left steps most (ShortOfRows u k)
-        → ran.ShortOfRows limit most (parts_of_pair s left f g) 1 (steps_of_pair s left f g) (book_of s used steps) (book_of t u k)
+    pub rows-ran : Multiplied s t limit used u f g left n k most (Err OfRows)
+        → ran.ShortOfRows limit most (parts_of_pair s left f g) 1 (steps_of_pair s left f g) (book_of s used n) (book_of t u k)
     rows-ran M = run-rows (denote-perfect s left f) (denote-perfect s left g) proper (stored f K.first) (stored g K.second) M.ran
 
-    pub steps-ran : Multiplied s t limit used f g left steps most (ShortOfSteps u k)
-        → ran.ShortOfSteps limit most (parts_of_pair s left f g) (steps_of_pair s left f g) (book_of s used steps) (book_of t u k)
+    pub steps-ran : Multiplied s t limit used u f g left n k most (Err OfSteps)
+        → ran.ShortOfSteps limit most (parts_of_pair s left f g) (steps_of_pair s left f g) (book_of s used n) (book_of t u k)
     steps-ran M = run-steps (denote-perfect s left f) (denote-perfect s left g) proper (stored f K.first) (stored g K.second) M.ran
 
-    pub completed : {r : ℕ} → Multiplied s t limit used f g left steps most (Done r u k) → Completed s t used f g left steps u k
+    pub completed : {r : ℕ} → Multiplied s t limit used u f g left n k most (Ok r) → Completed s t used f g left n u k
     completed M =
         let D = done-ran M in
         record { rows = sym (store_length t u) ∙ done-rows D; members = done-members D; taken = D.steps }
 
-    pub out_of_rows : Multiplied s t limit used f g left steps most (ShortOfRows u k) → OutOfRows s limit used f g left steps u k
+    pub out_of_rows : Multiplied s t limit used u f g left n k most (Err OfRows) → OutOfRows s limit used f g left n u k
     out_of_rows M =
         let R = rows-ran M in
         record { full = sym (store_length t u) ∙ R.full; over = R.over; least = R.least; most = R.most }
 
-    pub out_of_steps : Multiplied s t limit used f g left steps most (ShortOfSteps u k) → OutOfSteps s f g left steps most k
+    pub out_of_steps : Multiplied s t limit used u f g left n k most (Err OfSteps) → OutOfSteps s f g left n most k
     out_of_steps M =
         let S = steps-ran M in
         record { full = S.full; over = S.over }
 
   -- Where neither total passes its limit, the product is done.
-  pub enough : steps + steps_of_pair s left f g ≤ most → length (distinct alike? (parts_of_pair s left f g ++ store_of s used)) ≤ limit
-      → (t : List ℕ) (answer : Product) → Multiplies s t limit used f g left steps most answer → (r : ℕ) × (u : ℕ) × (k : ℕ) × (answer ≡ Done r u k)
-  enough few small t (Done r u k) M = (r, u, k, refl)
-  enough few small t (ShortOfRows u k) M = absurd (omega (arith, (out_of_rows M).over))
-  enough few small t (ShortOfSteps u k) M = absurd (omega (arith, (out_of_steps M).over))
+  pub enough : n + steps_of_pair s left f g ≤ most → length (distinct alike? (parts_of_pair s left f g ++ store_of s used)) ≤ limit
+      → (t : List ℕ) (u k : ℕ) (answer : Result ℕ Short) → Multiplies s t limit used u f g left n k most answer → (r : ℕ) × (answer ≡ Ok r)
+  enough few small t u k (Ok r) M = (r, refl)
+  enough few small t u k (Err OfRows) M = absurd (omega (arith, (out_of_rows M).over))
+  enough few small t u k (Err OfSteps) M = absurd (omega (arith, (out_of_steps M).over))
 
 -- Rows that grew and were given back are as they were.
 pub back : {s t v : List ℕ} {limit n u : ℕ} → Grown s t limit n u → GivenBack t v limit u n → Kept s v n

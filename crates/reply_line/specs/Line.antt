@@ -1,8 +1,7 @@
 -- The line that the program prints of a reply.
-use Rattle.std.specs.Prelude.{◌+◌, ℕ, length, List, []}
+use Rattle.std.specs.Prelude.{◌+◌, ℕ, length, List, [], Some, None}
 use Rattle.compare_model.specs.Said.{Said}
 use Rattle.report_format.specs.Report.{LINE_ROOM, refused_line, reply_line}
-use Rattle.report_format.specs.declared.Vertex.TheVariants.{At, None}
 use Rattle.report_format.specs.declared.Word.TheVariants as word
 
 -- "A Different writes one byte an input .. to the front of the lent setting slice": the other replies have no setting. (RULES 7.2)
@@ -22,8 +21,8 @@ line_for edition output (Said.refused n) setting = refused_line n 0 0
 line_for edition output (Said.equal rows steps added) setting = reply_line edition output word.Equal [] None rows steps
 line_for edition output (Said.different rows steps added) setting = reply_line edition output word.Different setting None rows steps
 line_for edition output (Said.size rows steps added) setting = reply_line edition output word.Size [] None rows steps
-line_for edition output (Said.rows v rows steps added) setting = reply_line edition output word.Rows [] (At v) rows steps
-line_for edition output (Said.steps v rows steps added) setting = reply_line edition output word.Steps [] (At v) rows steps
+line_for edition output (Said.rows v rows steps added) setting = reply_line edition output word.Rows [] (Some v) rows steps
+line_for edition output (Said.steps v rows steps added) setting = reply_line edition output word.Steps [] (Some v) rows steps
 
 -- The bytes that the line is sure to fit in.
 abbrev pub room_for : Said → List ℕ → ℕ

@@ -7,49 +7,40 @@ ghost use Rattle.reply_line.specs.Line.{line_for, room_for};
 ghost use Rattle.report_format.specs.Report.{Printed};
 ghost use Rattle.std.specs.Prelude.{◌≡◌};
 
-use report_format::{Vertex, Word};
+use refusal::Refusal;
+use report_format::Word;
 use sweep_model::{Cause, Reply};
 
 // Puts the line of a reply on an output at the front of `out` and gives back its length. The edition is that of the pair of files, and the
 // setting that of a Different.
-pub fn write_line(out: &mut [u8], edition: u32, output: u32, reply: Reply, setting: &[u8]) -> usize
+pub fn write_line(
+    out: &mut [u8],
+    edition: u32,
+    output: u32,
+    reply: Result<Reply, Refusal>,
+    setting: &[u8],
+) -> usize
     ensures { Printed (room_for (said_of reply) setting.now) (line_for edition output (said_of reply) setting.now) out.old out.new result }
 {
-    match reply {
-        Reply::Equal(counts) => report::write_reply(
-            out,
-            edition,
-            output,
-            Word::Equal,
-            b"",
-            Vertex::None,
-            counts.rows,
-            counts.steps,
-        ),
-        Reply::Different(counts) => report::write_reply(
-            out,
-            edition,
-            output,
-            Word::Different,
-            setting,
-            Vertex::None,
-            counts.rows,
-            counts.steps,
-        ),
-        Reply::Undecided(cause, counts) => report::write_reply(
-            out,
-            edition,
-            output,
-            word_of(cause),
-            b"",
-            vertex_of(cause),
-            counts.rows,
-            counts.steps,
-        ),
-        Reply::Refused(number) => report::write_refused(out, number, 0, 0),
-    }
+    let (word, setting, vertex, counts) = match reply {
+        Ok(Reply::Equal(counts)) => (Word::Equal, &b""[..], None, counts),
+        Ok(Reply::Different(counts)) => (Word::Different, setting, None, counts),
+        Ok(Reply::Undecided(cause, counts)) => (word_of(cause), &b""[..], vertex_of(cause), counts),
+        Err(refusal) => return report::write_refused(out, u32::from(refusal), 0, 0),
+    };
+    report::write_reply(
+        out,
+        edition,
+        output,
+        word,
+        setting,
+        vertex,
+        counts.rows,
+        counts.steps,
+    )
 }
 
+// `Word` and `Cause` are of other crates, so that no `From` can be written here.
 fn word_of(cause: Cause) -> Word
     ensures { result ≡ cause_word cause }
 {
@@ -60,12 +51,11 @@ fn word_of(cause: Cause) -> Word
     }
 }
 
-fn vertex_of(cause: Cause) -> Vertex
+fn vertex_of(cause: Cause) -> Option<u32>
     ensures { result ≡ cause_vertex cause }
 {
     match cause {
-        Cause::Size => Vertex::None,
-        Cause::Rows(v) => Vertex::At(v),
-        Cause::Steps(v) => Vertex::At(v),
+        Cause::Size => None,
+        Cause::Rows(v) | Cause::Steps(v) => Some(v),
     }
 }

@@ -1,11 +1,11 @@
-// The lines that the program prints, as bytes.
+// The lines that the program prints, as bytes. Each call can only run out of room, and says so by a length of 0: no line has that length.
 #![tactic(auto)]
 
 ghost use Rattle.std.specs.Prelude.{◌+◌, length};
 ghost use Rattle.report_format.specs.Report.{LINE_ROOM, Printed, head_line, refused_line, reply_line};
 
-use report_fields::{put, put_number, put_pair, put_setting, put_vertex, put_word};
-use report_format::{LINE_ROOM, Vertex, Word};
+use report_fields::Line;
+use report_format::{LINE_ROOM, Word};
 
 // Puts the head line at the front of `out` and gives back its length.
 // Where `out` has fewer than `LINE_ROOM` bytes nothing is written, and the length is 0.
@@ -15,11 +15,9 @@ pub fn write_head(out: &mut [u8]) -> usize
     if out.len() < LINE_ROOM {
         return 0;
     }
-    put(
-        out,
-        0,
-        b"rules\toutput\treply\tsetting\tvertex\trows\tsteps\n",
-    )
+    let mut fields = Line { out, at: 0 };
+    fields.put(b"rules\toutput\treply\tsetting\tvertex\trows\tsteps\n");
+    fields.at
 }
 
 // Puts the line of a reply at the front of `out` and gives back its length.
@@ -30,7 +28,7 @@ pub fn write_reply(
     output: u32,
     word: Word,
     setting: &[u8],
-    vertex: Vertex,
+    vertex: Option<u32>,
     rows: u32,
     steps: u32,
 ) -> usize
@@ -39,14 +37,17 @@ pub fn write_reply(
     if out.len() < LINE_ROOM + setting.len() {
         return 0;
     }
-    let word_at = put_pair(out, 0, edition, output, b'\t');
-    let setting_at = put_word(out, word_at, word);
-    let vertex_at = put_setting(out, setting_at, setting);
-    let rows_at = put_vertex(out, vertex_at, vertex);
-    put_pair(out, rows_at, rows, steps, b'\n')
+    let mut fields = Line { out, at: 0 };
+    fields.put_pair(edition, output, b'\t');
+    fields.put_word(word);
+    fields.put_setting(setting);
+    fields.put_vertex(vertex);
+    fields.put_pair(rows, steps, b'\n');
+    fields.at
 }
 
 // Puts the line of a refused load at the front of `out` and gives back its length.
+// Numbers, as the line has them: `Refusal` here and an edition's enum above would ask more of callers.
 // Where `out` has fewer than `LINE_ROOM` bytes nothing is written, and the length is 0.
 pub fn write_refused(out: &mut [u8], number: u32, file: u32, line: u32) -> usize
     ensures { Printed LINE_ROOM (refused_line number file line) out.old out.new result }
@@ -54,7 +55,9 @@ pub fn write_refused(out: &mut [u8], number: u32, file: u32, line: u32) -> usize
     if out.len() < LINE_ROOM {
         return 0;
     }
-    let number_at = put(out, 0, b"refused\t");
-    let file_at = put_number(out, number_at, number, b'\t');
-    put_pair(out, file_at, file, line, b'\n')
+    let mut fields = Line { out, at: 0 };
+    fields.put(b"refused\t");
+    fields.put_number(number, b'\t');
+    fields.put_pair(file, line, b'\n');
+    fields.at
 }

@@ -1,77 +1,99 @@
-// The fields of a line, as bytes.
+// A line under way, and its fields as bytes.
 #![tactic(auto)]
 
-ghost use Rattle.std.specs.Prelude.{◌+◌, ◌≤◌, length, [], ◌++◌, ◌∷◌};
-ghost use Rattle.report_format.specs.Report.{NUMBER_DIGITS, StoredWithin, WORD_LETTERS, setting_field, vertex_field, word_bytes};
-ghost use Rattle.text.specs.Decimal.{Stored, decimal};
+ghost use Rattle.report_format.specs.Report.{setting_field};
+ghost use Rattle.std.specs.Prelude.{◌≡◌};
 
-use report_format::{Vertex, Word};
+use report_format::Word;
 
-// Stores the word of a reply and a tab in `out` from `at` on, and gives back the place after them, as each function below does for its bytes.
-pub fn put_word(out: &mut [u8], at: usize, word: Word) -> usize
-    requires { at + (WORD_LETTERS + 1) ≤ length out.old }
-    ensures { StoredWithin out.old at (WORD_LETTERS + 1) (word_bytes word ++ 9 ∷ []) out.new result }
-{
-    match word {
-        Word::Equal => put(out, at, b"equal\t"),
-        Word::Different => put(out, at, b"different\t"),
-        Word::Size => put(out, at, b"size\t"),
-        Word::Rows => put(out, at, b"rows\t"),
-        Word::Steps => put(out, at, b"steps\t"),
+// The bytes lent for a line or for a report, and how many of them are written.
+// std's `write!` says what it wrote only of an `Ok`, and no clause rules out an `Err`; here each field is promised.
+#[derive(Drop)]
+pub struct Line<'a> {
+    pub out: &'a mut [u8],
+    pub at: usize,
+}
+
+impl<'a> Line<'a> {
+    ghost use Rattle.std.specs.Prelude.{◌+◌, length, [], ◌++◌, ◌∷◌};
+    ghost use Rattle.report_fields.specs.Line.{Added, HasRoom};
+    ghost use Rattle.report_format.specs.Report.{NUMBER_DIGITS, WORD_LETTERS, vertex_field, word_bytes};
+    ghost use Rattle.text.specs.Decimal.{decimal};
+
+    // Adds the word of a reply and a tab.
+    pub fn put_word(&mut self, word: Word)
+        requires { HasRoom self.old (WORD_LETTERS + 1) }
+        ensures { Added self.old (WORD_LETTERS + 1) (word_bytes word ++ 9 ∷ []) self.new }
+    {
+        self.put(match word {
+            Word::Equal => b"equal\t",
+            Word::Different => b"different\t",
+            Word::Size => b"size\t",
+            Word::Rows => b"rows\t",
+            Word::Steps => b"steps\t",
+        });
+    }
+
+    // Adds a setting, or `-` for an empty one, and a tab.
+    pub fn put_setting(&mut self, setting: &[u8])
+        requires { HasRoom self.old (length setting.now + 2) }
+        ensures { Added self.old (length setting.now + 2) (setting_field setting.now ++ 9 ∷ []) self.new }
+    {
+        self.put(field_of(setting));
+        self.put(b"\t");
+    }
+
+    // Adds a vertex number, or `-` for none, and a tab.
+    pub fn put_vertex(&mut self, vertex: Option<u32>)
+        requires { HasRoom self.old (NUMBER_DIGITS + 1) }
+        ensures { Added self.old (NUMBER_DIGITS + 1) (vertex_field vertex ++ 9 ∷ []) self.new }
+    {
+        match vertex {
+            Some(n) => self.put_number(n, b'\t'),
+            None => self.put(b"-\t"),
+        }
+    }
+
+    // Adds two numbers, with a tab between them and the byte `stop` after them.
+    pub fn put_pair(&mut self, first: u32, second: u32, stop: u8)
+        requires { HasRoom self.old (NUMBER_DIGITS + 1 + (NUMBER_DIGITS + 1)) }
+        ensures { Added self.old (NUMBER_DIGITS + 1 + (NUMBER_DIGITS + 1)) ((decimal first ++ 9 ∷ []) ++ (decimal second ++ stop ∷ [])) self.new }
+    {
+        self.put_number(first, b'\t');
+        self.put_number(second, stop);
+    }
+
+    // Adds a number and the byte `stop` after it.
+    pub fn put_number(&mut self, n: u32, stop: u8)
+        requires { HasRoom self.old (NUMBER_DIGITS + 1) }
+        ensures { Added self.old (NUMBER_DIGITS + 1) (decimal n ++ stop ∷ []) self.new }
+    {
+        self.put_digits(n);
+        self.put(&[stop]);
+    }
+
+    // Adds the digits of a number.
+    fn put_digits(&mut self, n: u32)
+        requires { HasRoom self.old NUMBER_DIGITS }
+        ensures { Added self.old NUMBER_DIGITS (decimal n) self.new }
+    {
+        self.at = text::print(u64::from(n), self.out, self.at);
+    }
+
+    // Adds a byte string.
+    pub fn put(&mut self, bytes: &[u8])
+        requires { HasRoom self.old (length bytes.now) }
+        ensures { Added self.old (length bytes.now) bytes.now self.new }
+    {
+        let end = self.at + bytes.len();
+        self.out[self.at..end].copy_from_slice(bytes);
+        self.at = end;
     }
 }
 
-// Stores a setting, or `-` for an empty one, and a tab.
-pub fn put_setting(out: &mut [u8], at: usize, setting: &[u8]) -> usize
-    requires { at + (length setting.now + 2) ≤ length out.old }
-    ensures { StoredWithin out.old at (length setting.now + 2) (setting_field setting.now ++ 9 ∷ []) out.new result }
+// The field of a setting.
+fn field_of(setting: &[u8]) -> &[u8]
+    ensures { result.now ≡ setting_field setting.now }
 {
-    if setting.len() == 0 {
-        return put(out, at, b"-\t");
-    }
-    let end = put(out, at, setting);
-    put(out, end, b"\t")
-}
-
-// Stores a vertex number, or `-` for none, and a tab.
-pub fn put_vertex(out: &mut [u8], at: usize, vertex: Vertex) -> usize
-    requires { at + (NUMBER_DIGITS + 1) ≤ length out.old }
-    ensures { StoredWithin out.old at (NUMBER_DIGITS + 1) (vertex_field vertex ++ 9 ∷ []) out.new result }
-{
-    match vertex {
-        Vertex::None => put(out, at, b"-\t"),
-        Vertex::At(n) => put_number(out, at, n, b'\t'),
-    }
-}
-
-// Stores two numbers, with a tab between them and the byte `stop` after them.
-pub fn put_pair(out: &mut [u8], at: usize, first: u32, second: u32, stop: u8) -> usize
-    requires { at + (NUMBER_DIGITS + 1 + (NUMBER_DIGITS + 1)) ≤ length out.old }
-    ensures { StoredWithin out.old at (NUMBER_DIGITS + 1 + (NUMBER_DIGITS + 1)) ((decimal first ++ 9 ∷ []) ++ (decimal second ++ stop ∷ [])) out.new result }
-{
-    let next = put_number(out, at, first, b'\t');
-    put_number(out, next, second, stop)
-}
-
-// Stores a number and the byte `stop` after it.
-pub fn put_number(out: &mut [u8], at: usize, n: u32, stop: u8) -> usize
-    requires { at + (NUMBER_DIGITS + 1) ≤ length out.old }
-    ensures { StoredWithin out.old at (NUMBER_DIGITS + 1) (decimal n ++ stop ∷ []) out.new result }
-{
-    let end = text::print(n as u64, out, at);
-    out[end] = stop;
-    end + 1
-}
-
-// Stores a byte string.
-pub fn put(out: &mut [u8], at: usize, bytes: &[u8]) -> usize
-    requires { at + length bytes.now ≤ length out.old }
-    ensures { Stored out.old at bytes.now out.new result }
-{
-    let mut i = 0;
-    while i < bytes.len() {
-        out[at + i] = bytes[i];
-        i += 1;
-    }
-    at + i
+    if setting.is_empty() { b"-" } else { setting }
 }

@@ -1,6 +1,6 @@
 -- Lines of the rules, byte by byte.
 use Rattle.report_format.specs.Report.{LINE_ROOM, refused_line, reply_line}
-use Rattle.report_format.specs.declared.Vertex.TheVariants.{At, None}
+use Rattle.std.specs.Prelude.{None, Some}
 use Rattle.report_format.specs.declared.Word.TheVariants.{Different, Steps}
 use Rattle.text.specs.Decimal.{decimal, digits_within}
 use lib.ListN.{length}
@@ -22,7 +22,7 @@ no_inputs = refl
 
 -- "step limit 5 gives Steps at vertex 4, steps 5": with 3 rows `1⇥0⇥steps⇥-⇥4⇥3⇥5`.
 steps-at :
-    reply_line 1 0 Steps [] (At 4) 3 5 ≡ 49 ∷ 9 ∷ 48 ∷ 9 ∷ 115 ∷ 116 ∷ 101 ∷ 112 ∷ 115 ∷ 9 ∷ 45 ∷ 9 ∷ 52 ∷ 9 ∷ 51 ∷ 9 ∷ 53 ∷ 10 ∷ []
+    reply_line 1 0 Steps [] (Some 4) 3 5 ≡ 49 ∷ 9 ∷ 48 ∷ 9 ∷ 115 ∷ 116 ∷ 101 ∷ 112 ∷ 115 ∷ 9 ∷ 45 ∷ 9 ∷ 52 ∷ 9 ∷ 51 ∷ 9 ∷ 53 ∷ 10 ∷ []
 unfolding reply_line decimal digits_within
 steps-at = refl
 
@@ -32,6 +32,6 @@ unfolding refused_line decimal digits_within
 empty-file = refl
 
 -- The longest line: every number is the greatest of 32 bits.
-longest : length (reply_line 4294967295 4294967295 Different [] (At 4294967295) 4294967295 4294967295) ≡ LINE_ROOM
+longest : length (reply_line 4294967295 4294967295 Different [] (Some 4294967295) 4294967295 4294967295) ≡ LINE_ROOM
 unfolding reply_line decimal digits_within
 longest = refl

@@ -1,7 +1,7 @@
 -- Laws of the lines.
 use Prim.Native.Nat.{◌+◌, ◌<◌, ◌^◌, ◌≤◌, ℕ}
 use Rattle.report_format.specs.Report.{NUMBER_DIGITS, Printed, StoredWithin, line_length, line_put, refused_line, reply_line, setting_field, vertex_field, word_bytes}
-use Rattle.report_format.specs.declared.Vertex.{Vertex}
+use Rattle.std.specs.Prelude.{Option}
 use Rattle.report_format.specs.declared.Word.{Word}
 use Rattle.text.proofs.DecimalLaws.{decimal_length, stored_length}
 use Rattle.text.specs.Decimal.{decimal, written}
@@ -16,19 +16,9 @@ use native.Mathlib.Omega.{arith}
 pub number_short : (n : ℕ) → n < 2 ^ 32 → length (decimal n) ≤ NUMBER_DIGITS
 number_short n h = decimal_length 9 n (omega arith)
 
--- An empty setting is a `-`.
-pub setting-empty : (s : List ℕ) → length s ≡ 0 → setting_field s ≡ 45 ∷ []
-setting-empty [] h = refl
-setting-empty (b ∷ bs) h = absurd (omega arith)
-
--- Any other is its bytes.
-pub setting-some : (s : List ℕ) → (length s ≡ 0 → ⊥) → setting_field s ≡ s
-setting-some [] h = absurd (h refl)
-setting-some (b ∷ bs) h = refl
-
 -- A reply line as its fields are stored.
 pub reply-parts :
-    (edition output : ℕ) (word : Word) (setting : List ℕ) (vertex : Vertex) (rows steps : ℕ)
+    (edition output : ℕ) (word : Word) (setting : List ℕ) (vertex : Option ℕ) (rows steps : ℕ)
     → reply_line edition output word setting vertex rows steps
     ≡ ((decimal edition ++ 9 ∷ []) ++ (decimal output ++ 9 ∷ []))
     ++ ((word_bytes word ++ 9 ∷ [])
@@ -60,3 +50,7 @@ unfolding line_put line_length
 printed-none {room} {line} {old} h =
     let e = lt-ltb (length old) room h in
     record { list = rw e refl; count = rw e refl; within = omega arith; front = refl }
+
+-- A line printed into a slice that is the same.
+pub printed_as : {room given : ℕ} {line old new mid : List ℕ} → Printed room line old mid given → new ≡ mid → Printed room line old new given
+printed_as p e = rw e p

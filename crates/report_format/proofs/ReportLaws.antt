@@ -1,8 +1,8 @@
 -- What a reader finds in the lines.
 use Prim.Native.Nat.{ℕ}
 use Rattle.report_format.specs.Report.{line_of, refused_fields, refused_line, reply_fields, reply_line, setting_field, vertex_field, word_bytes}
-use Rattle.report_format.specs.declared.Vertex.TheVariants.{At, None}
-use Rattle.report_format.specs.declared.Vertex.{Vertex}
+use Rattle.std.specs.Prelude.{None, Some}
+use Rattle.std.specs.Prelude.{Option}
 use Rattle.report_format.specs.declared.Word.TheVariants.{Different, Equal, Rows, Size, Steps}
 use Rattle.report_format.specs.declared.Word.{Word}
 use Rattle.text.proofs.NumeralLaws.{decimal-lacks, digits_lack}
@@ -36,11 +36,11 @@ module _ (k : ℕ) (digit : is_digit k ≡ false) (dash : eqb 45 k ≡ false) (w
   setting-lacks [] h = rw dash refl
   setting-lacks (b ∷ bs) h = digits_lack k (b ∷ bs) digit h
 
-  vertex-lacks : (v : Vertex) → has k (vertex_field v) ≡ false
+  vertex-lacks : (v : Option ℕ) → has k (vertex_field v) ≡ false
   vertex-lacks None = rw dash refl
-  vertex-lacks (At n) = decimal-lacks k n digit
+  vertex-lacks (Some n) = decimal-lacks k n digit
 
-  fields_lack : (edition output : ℕ) (word : Word) (setting : List ℕ) (vertex : Vertex) (rows steps : ℕ) → all_digits setting ≡ true → any_has k (reply_fields edition output word setting vertex rows steps) ≡ false
+  fields_lack : (edition output : ℕ) (word : Word) (setting : List ℕ) (vertex : Option ℕ) (rows steps : ℕ) → all_digits setting ≡ true → any_has k (reply_fields edition output word setting vertex rows steps) ≡ false
   fields_lack edition output word setting vertex rows steps h =
       rw (decimal-lacks k edition digit, decimal-lacks k output digit, words word, setting-lacks setting h, vertex-lacks vertex, decimal-lacks k rows digit, decimal-lacks k steps digit) refl
 
@@ -53,7 +53,7 @@ words_lack Rows = (refl, refl)
 words_lack Steps = (refl, refl)
 
 -- The line of a reply.
-module _ (edition output : ℕ) (word : Word) (setting : List ℕ) (vertex : Vertex) (rows steps : ℕ) where
+module _ (edition output : ℕ) (word : Word) (setting : List ℕ) (vertex : Option ℕ) (rows steps : ℕ) where
   -- Every reply line opens with the edition.
   pub reply-opens : get_or (split_at 9 (reply_line edition output word setting vertex rows steps)) 0 [] ≡ decimal edition
   unfolding reply_line

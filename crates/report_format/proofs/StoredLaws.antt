@@ -4,7 +4,7 @@ use Rattle.report_format.specs.Report.{StoredWithin}
 use Rattle.text.proofs.DecimalLaws.{stored-append, stored_length, written_one}
 use Rattle.text.specs.Decimal.{Stored, written}
 use lib.ListN.{get_or, length, length-append, set, take, take-append-drop}
-use lib.Seq.{length-take-le, take_all, take-suc}
+use lib.Seq.{length-take-le, take-suc}
 use mathlib.Core.List.{List, [], ◌++◌, ◌∷◌}
 use mathlib.Core.Path.{◌≡◌, refl, sym}
 use native.Mathlib.Numerals.{add-one}
@@ -39,10 +39,11 @@ stored-none old at =
 -- The first `i` bytes of a string are stored, and the next follows.
 module _ (old : List ℕ) (at : ℕ) (bytes new : List ℕ) (i : ℕ) (room : at + length bytes ≤ length old) (stored : Stored old at (take i bytes) new (at + i))
     (more : i < length bytes) where
-  part_room : at + length (take i bytes) ≤ length old
+  -- The first `i` have room.
+  pub part_room : at + length (take i bytes) ≤ length old
   part_room = omega (arith, length-take-le i bytes (omega arith))
 
-  -- There is room for it.
+  -- So has the next.
   pub byte_fits : at + i < length new
   byte_fits = omega (arith, stored_length part_room stored)
 
@@ -51,7 +52,3 @@ module _ (old : List ℕ) (at : ℕ) (bytes new : List ℕ) (i : ℕ) (room : at
   stored_more =
       let e : at + (i + 1) ≡ at + i + 1 = omega arith in
       rw (e, add-one i, take-suc bytes i 0) (stored-append part_room stored (stored-byte new (at + i) (get_or bytes i 0) byte_fits))
-
--- At its end the whole string is stored.
-pub stored-whole : (old : List ℕ) (at : ℕ) (bytes new : List ℕ) (i next : ℕ) → length bytes ≤ i → Stored old at (take i bytes) new next → Stored old at bytes new next
-stored-whole old at bytes new i next h p = rw (take_all i bytes h) at p

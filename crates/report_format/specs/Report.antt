@@ -1,7 +1,5 @@
 -- The lines that the program prints, as bytes.
-use Rattle.std.specs.Prelude.{◌≤◌, ℕ, ltb, drop, length, take, cond, List, [], ◌++◌, ◌∷◌, ◌≡◌}
-use Rattle.report_format.specs.declared.Vertex.TheVariants.{At, None}
-use Rattle.report_format.specs.declared.Vertex.{Vertex}
+use Rattle.std.specs.Prelude.{◌≤◌, ℕ, ltb, drop, length, take, cond, List, [], ◌++◌, ◌∷◌, ◌≡◌, Option, Some, None}
 use Rattle.report_format.specs.declared.Word.TheVariants.{Different, Equal, Rows, Size, Steps}
 use Rattle.report_format.specs.declared.Word.{Word}
 use Rattle.text.specs.Decimal.{Stored, decimal}
@@ -38,17 +36,17 @@ setting_field [] = 45 ∷ []
 setting_field (b ∷ bs) = b ∷ bs
 
 -- "`-` stands for .. no vertex": a vertex number as a field. (RULES 11.5)
-abbrev pub vertex_field : Vertex → List ℕ
+abbrev pub vertex_field : Option ℕ → List ℕ
 vertex_field None = 45 ∷ []
-vertex_field (At n) = decimal n
+vertex_field (Some n) = decimal n
 
 -- "The fields are: edition, output number, reply word .., setting, vertex named by Rows or Steps, rows, steps." (RULES 11.4)
-abbrev pub reply_fields : ℕ → ℕ → Word → List ℕ → Vertex → ℕ → ℕ → List (List ℕ)
+abbrev pub reply_fields : ℕ → ℕ → Word → List ℕ → Option ℕ → ℕ → ℕ → List (List ℕ)
 reply_fields edition output word setting vertex rows steps =
     decimal edition ∷ decimal output ∷ word_bytes word ∷ setting_field setting ∷ vertex_field vertex ∷ decimal rows ∷ decimal steps ∷ []
 
 -- "then a line each": the line of a reply. (RULES 11.3)
-unfoldable pub reply_line : ℕ → ℕ → Word → List ℕ → Vertex → ℕ → ℕ → List ℕ
+unfoldable pub reply_line : ℕ → ℕ → Word → List ℕ → Option ℕ → ℕ → ℕ → List ℕ
 reply_line edition output word setting vertex rows steps = line_of (reply_fields edition output word setting vertex rows steps)
 
 -- "A refused load prints only `refused⇥number⇥file⇥line`." (RULES 11.6)

@@ -2,20 +2,13 @@
 #![tactic(auto)]
 
 // What a reply is called.
-#[derive(Clone, Copy)]
+#[derive(Clone, Copy, Debug, PartialEq, Eq)]
 pub enum Word {
     Equal,
     Different,
     Size,
     Rows,
     Steps,
-}
-
-// The vertex that a reply names, if any.
-#[derive(Clone, Copy)]
-pub enum Vertex {
-    None,
-    At(u32),
 }
 
 // The most bytes of a line beside those of its setting.

@@ -8,6 +8,7 @@ use Rattle.text.specs.Decimal.{written}
 use borrow.Author.Tests.{le-ltb}
 use lib.ListN.{length}
 use mathlib.Core.List.{List, ◌++◌}
+use mathlib.Core.Path.{◌≡◌}
 use native.Mathlib.Omega.{arith}
 
 -- The head line put at the front of a slice is stored there.
@@ -24,3 +25,7 @@ pub head_and_lines : {old mid lines new : List ℕ} {start end : ℕ} (outputs :
 head_and_lines outputs room bound head lines =
     let both = stored_next (outputs * reply_room) (omega arith) head (λ h. lines) in
     record { stored = both.stored; short = omega (arith, both.short) }
+
+-- What is stored is stored in a slice that holds the same.
+pub stored_in : {old bytes new here : List ℕ} {room end : ℕ} → here ≡ new → StoredWithin old 0 room bytes new end → StoredWithin old 0 room bytes here end
+stored_in {old} {bytes} {new} {here} {room} {end} e h = rw e h

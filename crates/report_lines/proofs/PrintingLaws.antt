@@ -1,6 +1,8 @@
 -- The lines of the comparisons made so far, from turn to turn.
 use Prim.Native.Nat.{◌*◌, ◌+◌, ◌<◌, ◌≤◌, suc, ℕ}
 use Rattle.compare_model.specs.Compare.{Given}
+use Rattle.compare_model.specs.Lent.{SameSlices}
+use Rattle.compare_model.specs.declared.Lent.{Lent}
 use Rattle.report_format.proofs.StoredLaws.{room_next, stored_next, stored-none}
 use Rattle.report_format.specs.Report.{StoredWithin}
 use Rattle.report_model.proofs.ComparisonLaws.{lines_more, since_after}
@@ -88,3 +90,17 @@ printing_end {edition} {first} {here} {old} {start} {out} {at} p outputs e = (
       (after n first))
       e p.place,
 )
+
+-- Slices that are the same ones twice are the same ones.
+pub same_then : {a b c : Lent} → SameSlices a b → SameSlices b c → SameSlices a c
+same_then p q =
+    record {
+      pairs = q.pairs ∙ p.pairs;
+      look = q.look ∙ p.look;
+      diagrams = q.diagrams ∙ p.diagrams;
+      stages = q.stages ∙ p.stages;
+      rows = q.rows ∙ p.rows;
+      marks = q.marks ∙ p.marks;
+      setting = q.setting ∙ p.setting;
+      lengths = q.lengths ∙ p.lengths;
+    }

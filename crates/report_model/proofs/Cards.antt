@@ -5,7 +5,7 @@ use Rattle.compare_model.specs.Compare.{answer_to, answered, beyond?, compared, 
 use Rattle.load_model.specs.Build.{ask_and, ask_gate, ask_gates, ask_xor, build_file, build_pair, empty_build, folded_or_not, found_or_made, literals_from}
 use Rattle.load_model.specs.Load.{counts_differ?, load_result, read_result, read_second, table_after, table_of, table_words, tally_of}
 use Rattle.load_model.specs.Load.{short_slice? as short_load?}
-use Rattle.netlist_model.specs.Check.{below?, check_file, check_from, constraints_in, due?, due_after, finish, formed?, gates_in, header?, known?, limited?, more?, names_in, outputs_in, read_by, read_netlist, twice?}
+use Rattle.netlist_model.specs.Check.{check_file, check_from, constraints_in, due_after, finish, formed?, gates_in, header?, known?, limited?, more?, names_in, outputs_in, read_by, read_netlist, twice?}
 use Rattle.netlist_model.specs.Meaning.{and_count}
 use Rattle.netlist_model.specs.Names.{first_lacked, name_count, place_of}
 use Rattle.netlist_model.specs.Pairing.{input_for, paired, reference_for}
@@ -31,7 +31,7 @@ use Rattle.truth.specs.Truth.{conj, constant?, constantly, input, invert, same?,
 use mathlib.Core.Path.{refl}
 
 pub cards : Cards
-unfolding ask_xor check_file check_from constraints_in below? due? due_after finish formed? gates_in header? known? limited? more? name_count names_in outputs_in read_by read_netlist twice?
+unfolding ask_xor check_file check_from constraints_in due_after finish formed? gates_in header? known? limited? more? name_count names_in outputs_in read_by read_netlist twice?
     digits_from numeral_of fields_record file_lines line_of name? operation_of part_lines record_of unended fold_of first_vertex own_words ask_and ask_gate ask_gates
     build_file build_pair empty_build folded_or_not found_or_made literals_from counts_differ? first_lacked input_for load_result paired place_of read_result read_second reference_for short_load? tally_of and_count first_refusal
     table_after table_of table_words answer_to answered beyond? compared entry_rows graph_words looked_at next_rows outputs_left outside? problem_of refusal_of row_words setting_bytes setting_left

@@ -1,9 +1,8 @@
 -- Reports computed from the bytes of the files.
-use Rattle.std.specs.Prelude.{◌*◌, ℕ, replicate, take, List, [], ◌++◌, ◌∷◌, ◌≡◌}
+use Rattle.std.specs.Prelude.{◌*◌, ℕ, replicate, take, List, [], ◌++◌, ◌∷◌, ◌≡◌, None}
 use Rattle.load_model.specs.Cards.{and_file, named_and, turned_and, with_one_gate}
 use Rattle.load_model.specs.Load.{max_table}
 use Rattle.report_format.specs.Report.{head_line, refused_line, reply_line}
-use Rattle.report_format.specs.declared.Vertex.TheVariants.{None}
 use Rattle.report_format.specs.declared.Word.TheVariants.{Different, Equal}
 use Rattle.report_model.specs.Report.{Lent, compare_vertices, report_of, report_room, row_limit}
 use Rattle.table.specs.Limits.{max_inputs}

@@ -1,43 +1,47 @@
 // A comparison of an output, and its line.
 #![tactic(auto)]
 
-ghost use Rattle.std.specs.Prelude.{◌+◌, ◌≤◌, length};
-ghost use Rattle.comparer.specs.Lent.{slices};
-ghost use Rattle.report_format.specs.Report.{StoredWithin};
+ghost use Rattle.std.specs.Prelude.{length, take, ◌≡◌, ◌≤◌};
+ghost use Rattle.compare_model.specs.Lent.{SameSlices};
+ghost use Rattle.comparer.specs.Lent.{holding};
+ghost use Rattle.report_fields.specs.Line.{Added, HasRoom};
 ghost use Rattle.report_model.specs.Report.{comparison_line, reply_room};
 ghost use Rattle.report_output.specs.code.Slices.{LeftToNext, Ready, asked};
 
-use comparer::Limits;
+use compare_model::{Lent, Limits};
+use report_fields::Line;
 use report_model::{ROW_LIMIT, SIZE_LIMIT, STEP_LIMIT};
+use table::Table;
 
-// Compares an output, stores its line in `out` from `at` on, and gives back the place after it.
+// Compares an output, and adds its line to the report.
 pub fn report_output(
-    out: &mut [u8],
-    at: usize,
+    report: &mut Line<'_>,
     edition: u32,
     output: u32,
     table: &mut [u32],
-    pairs: &mut [u32],
-    look: &mut [u32],
-    diagrams: &mut [u32],
-    stages: &mut [u32],
-    rows: &mut [u32],
-    marks: &mut [u8],
-    setting: &mut [u8],
-) -> usize
-    requires ready { Ready table.old (length setting.old) }
-    requires reply_room_in_bounds { at + reply_room ≤ length out.old }
-    ensures stored_within { StoredWithin out.old at reply_room (comparison_line edition (asked output (slices table pairs look diagrams stages rows marks setting).entry)) out.new result }
-    ensures left_to_next { LeftToNext output (slices table pairs look diagrams stages rows marks setting) }
+    lent: &mut Lent<'_>,
+)
+    requires ready { Ready table.old (length lent.old.setting.now) }
+    requires reply_room_in_bounds { HasRoom report.old reply_room }
+    ensures added { Added report.old reply_room (comparison_line edition (asked output (holding table.old lent.old))) report.new }
+    ensures left_to_next { LeftToNext output (holding table.old lent.old) (holding table.new lent.new) }
+    ensures same { SameSlices lent.old lent.new }
 {
     let limits = Limits {
         size: SIZE_LIMIT,
         rows: ROW_LIMIT,
         steps: STEP_LIMIT,
     };
-    let inputs = table::inputs(&table[..]) as usize;
-    let reply = comparer::compare(
-        table, output, limits, pairs, look, diagrams, stages, rows, marks, setting,
-    );
-    report_parts::put_line(out, at, edition, output, reply, &setting[..inputs])
+    let view = Table { words: &table[..] };
+    let inputs = view.inputs() as usize;
+    let reply = comparer::compare(table, output, limits, lent);
+    report_parts::put_line(report, edition, output, reply, digits(lent, inputs));
+}
+
+// The front of the setting: a byte for each input.
+fn digits<'a>(lent: &'a Lent<'_>, inputs: usize) -> &'a [u8]
+    requires { inputs ≤ length lent.now.setting.now }
+    ensures { result.now ≡ take inputs lent.now.setting.now }
+{
+    &lent.setting[..inputs]
 }

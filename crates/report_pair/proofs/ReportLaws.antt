@@ -1,6 +1,6 @@
 -- What the call gives back and leaves is the report.
 use Prim.Native.Nat.{◌+◌, ◌≤◌, ℕ}
-use Rattle.compare_model.specs.Compare.{Given, over_front}
+use Rattle.compare_model.specs.Compare.{CompareRoom, Given, over_front}
 use Rattle.comparer.specs.Lent.{Slices, Unchanged}
 use Rattle.load_model.specs.Lent.{Kept, Working}
 use Rattle.load_model.specs.Load.{Answer, LoadRoom, accepted, load_result, refused, table_loaded}
@@ -20,6 +20,11 @@ use mathlib.Core.Bool.{false}
 use mathlib.Core.List.{List, ◌++◌}
 use mathlib.Core.Path.{◌∙◌, ◌≡◌, ap, ap₂, refl, sym}
 use native.Mathlib.Omega.{arith}
+
+-- Working slices of the same lengths.
+pub same-room : {p p' l l' d d' s s' r r' : ℕ} → p' ≡ p → l' ≡ l → d' ≡ d → s' ≡ s → r' ≡ r
+    → ◌≡◌ {A = CompareRoom} (record { pairs = p'; look = l'; diagrams = d'; stages = s'; rows = r' }) (record { pairs = p; look = l; diagrams = d; stages = s; rows = r })
+same-room a b c d e = rw (a, b, c, d, e) refl
 
 -- What is stored at the front of a slice is within it.
 pub front-stored : {old bytes new : List ℕ} {count : ℕ} → report_room ≤ length old → length new ≡ length old → StoredWithin old 0 report_room bytes new count → Front count new

@@ -1,14 +1,17 @@
-// Parts of the report: whether its slices are too short, and a line in its place.
+// Parts of the report: whether its slices are too short, and a line added to it.
 #![tactic(auto)]
 
-ghost use Rattle.std.specs.Prelude.{◌+◌, ◌≤◌, length, ◌≡◌};
+ghost use Rattle.std.specs.Prelude.{◌+◌, length, ◌≡◌};
+ghost use Rattle.compare_model.specs.Lent.{room_of};
 ghost use Rattle.compare_model.specs.Said.{said_of};
-ghost use Rattle.compare_refusal.specs.code.Room.{room_of};
 ghost use Rattle.reply_line.specs.Line.{line_for};
-ghost use Rattle.report_format.specs.Report.{LINE_ROOM, StoredWithin};
+ghost use Rattle.report_fields.specs.Line.{Added, HasRoom};
+ghost use Rattle.report_format.specs.Report.{LINE_ROOM};
 ghost use Rattle.report_model.specs.Report.{short_room?};
 
-use compare_refusal::Lengths;
+use compare_model::Lengths;
+use refusal::Refusal;
+use report_fields::Line;
 use report_model::{COMPARE_VERTICES, REPORT_ROOM, ROW_LIMIT};
 use sweep_model::Reply;
 
@@ -16,27 +19,28 @@ use sweep_model::Reply;
 pub fn is_short(out: usize, lengths: Lengths) -> bool
     ensures { result ≡ short_room? out (room_of lengths) lengths.marks lengths.setting }
 {
-    if out < REPORT_ROOM {
-        return true;
-    }
-    if compare_refusal::is_short(COMPARE_VERTICES, ROW_LIMIT, lengths) {
-        return true;
-    }
-    lengths.setting < table::MAX_INPUTS as usize
+    out < REPORT_ROOM
+        || compare_refusal::is_short(COMPARE_VERTICES, ROW_LIMIT, lengths)
+        || lengths.setting < table::MAX_INPUTS as usize
 }
 
-// Stores the line of a reply in `out` from `at` on, and gives back the place after it.
+// Adds the line of a reply to the report.
 pub fn put_line(
-    out: &mut [u8],
-    at: usize,
+    report: &mut Line<'_>,
     edition: u32,
     output: u32,
-    reply: Reply,
+    reply: Result<Reply, Refusal>,
     setting: &[u8],
-) -> usize
-    requires { at + (LINE_ROOM + length setting.now) ≤ length out.old }
-    ensures { StoredWithin out.old at (LINE_ROOM + length setting.now) (line_for edition output (said_of reply) setting.now) out.new result }
+)
+    requires { HasRoom report.old (LINE_ROOM + length setting.now) }
+    ensures { Added report.old (LINE_ROOM + length setting.now) (line_for edition output (said_of reply) setting.now) report.new }
 {
-    let end = at + report_format::LINE_ROOM + setting.len();
-    at + reply_line::write_line(&mut out[at..end], edition, output, reply, setting)
+    let end = report.at + report_format::LINE_ROOM + setting.len();
+    report.at += reply_line::write_line(
+        &mut report.out[report.at..end],
+        edition,
+        output,
+        reply,
+        setting,
+    );
 }

@@ -15,14 +15,14 @@ pub fn card_count(file: &[u8]) -> usize
 pub fn card(file: &[u8], k: usize) -> &[u8]
     ensures { result.now ≡ part_of 37 file.now k }
 {
-    part(file, k, b'%')
+    text::part(file, k, b'%')
 }
 
 // Field `k` of a card, or nothing where there are fewer.
 pub fn field(card: &[u8], k: usize) -> &[u8]
     ensures { result.now ≡ part_of 124 card.now k }
 {
-    part(card, k, b'|')
+    text::part(card, k, b'|')
 }
 
 pub fn number_count(field: &[u8]) -> usize
@@ -35,48 +35,22 @@ pub fn number_count(field: &[u8]) -> usize
 pub fn number_at(field: &[u8], k: usize) -> u32
     ensures { result ≡ value_of (part_of 44 field.now k) }
 {
-    number(part(field, k, b','))
+    number(text::part(field, k, b','))
 }
 
 // The number that digits stand for, or the highest of 32 bits where it is higher.
 pub fn number(digits: &[u8]) -> u32
     ensures { result ≡ value_of digits.now }
 {
-    let mut value = 0;
-    let mut i = 0;
-    while i < digits.len() {
-        value = with_digit(value, digits[i]);
-        i += 1;
-    }
-    value
+    digits
+        .iter()
+        .fold(0, |value, byte| with_digit(value, *byte))
 }
 
-// Part `k` of `s`, or nothing where there are fewer.
-fn part(s: &[u8], k: usize, stop: u8) -> &[u8]
-    ensures { result.now ≡ part_of stop s.now k }
-{
-    if k < text::part_count(s, stop) {
-        return text::part(s, k, stop);
-    }
-    &s[..0]
-}
-
+// A number with one more digit, or the highest where it is higher. A byte below that of 0 is the digit 0.
 fn with_digit(value: u32, byte: u8) -> u32
     ensures { result ≡ min (value * 10 + (byte - 48)) HIGHEST }
 {
-    let next = value as u64 * 10 + digit_of(byte) as u64;
-    if next <= u32::MAX as u64 {
-        return next as u32;
-    }
-    u32::MAX
-}
-
-// The digit of a byte, 0 for bytes below that of 0.
-fn digit_of(byte: u8) -> u8
-    ensures { result ≡ byte - 48 }
-{
-    if byte < b'0' {
-        return 0;
-    }
-    byte - b'0'
+    let digit = byte.saturating_sub(b'0');
+    value.saturating_mul(10).saturating_add(u32::from(digit))
 }

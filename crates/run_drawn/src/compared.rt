@@ -1,193 +1,138 @@
 // The comparisons of a table, and each reply held against what the truth tables say.
-use crate::asked::{Asked, Differences, Facts};
-use crate::tally::KINDS;
-use crate::{ROWS, TABLE, VERTICES, asked, settings, tables, tally};
-use comparer::{Cause, Counts, Limits, Reply};
+use crate::asked::{Asked, draw_all};
+use crate::circuit::OUTPUTS;
+use crate::memory::Memory;
+use crate::random::Random;
+use crate::settings;
+use crate::tally::{Tally, count};
+use comparer::{Cause, Counts, Refusal, Reply};
+use std::alloc::{AllocError, Global};
+
+// What is known of a table: its inputs, the vertices of a comparison, the place of the constraint's word, that word as loaded, and the outputs.
+#[derive(Drop)]
+pub struct Facts {
+    pub inputs: u32,
+    pub vertices: usize,
+    pub constraint_at: usize,
+    pub constraint: Option<u32>,
+    pub outputs: Vec<Differences>,
+}
+
+// The first settings on which an output's two sides differ: among the allowed ones, and among all.
+#[derive(Clone, Copy)]
+pub struct Differences {
+    pub allowed: Option<usize>,
+    pub all: Option<usize>,
+}
+
+impl Facts {
+    // The first differences of an output; of one that there is not, none.
+    fn differences(&self, output: u32) -> Differences {
+        self.outputs
+            .get(output as usize)
+            .copied()
+            .unwrap_or(Differences {
+                allowed: None,
+                all: None,
+            })
+    }
+}
 
 // Makes the comparisons, turn by turn, and judges each reply.
 pub fn compare_all(
-    table: &mut [u32; TABLE],
-    pairs: &mut [u32; TABLE],
-    look: &mut [u32; TABLE],
-    diagrams: &mut [u32; TABLE],
-    stages: &mut [u32; TABLE],
-    rows: &mut [u32; ROWS],
-    marks: &mut [u8; VERTICES],
-    facts: Facts,
-    seed: &mut u32,
-    tally: &mut [u32; KINDS],
-) {
-    let turns = asked::turns(facts);
-    let mut first = 0;
-    let mut turn = 0;
-    while turn < turns {
-        turn += 1;
-        let asked = asked::draw_asked(facts, turn, &mut first, seed);
+    alloc: Global,
+    memory: &mut Memory,
+    facts: &Facts,
+    random: &mut Random,
+    tally: &mut Tally,
+) -> Result<(), AllocError> {
+    let outputs = facts.outputs.len().clamp(1, OUTPUTS) as u32;
+    let all = draw_all(alloc, outputs, random)?;
+    for asked in all.iter() {
         let mut setting = [settings::BLANK; settings::BYTES];
-        let reply = comparer::compare(
-            table,
-            asked.output,
-            limits_of(asked),
-            pairs,
-            look,
-            diagrams,
-            stages,
-            rows,
-            marks,
-            &mut setting,
-        );
-        judge(reply, asked, facts, table, marks, &setting, tally);
+        let reply = memory.compare(asked.output, asked.limits, &mut setting);
+        let digits = written(alloc, reply, facts, asked.output)?;
+        tally.hold(settings::holds(&setting, &digits));
+        judge(reply, asked, facts, memory, tally);
+    }
+    Ok(())
+}
+
+// The digits that a reply writes: after Different those of the first difference.
+fn written(
+    alloc: Global,
+    reply: Result<Reply, Refusal>,
+    facts: &Facts,
+    output: u32,
+) -> Result<Vec<u8>, AllocError> {
+    match (reply, facts.differences(output).allowed) {
+        (Ok(Reply::Different(_)), Some(setting)) => {
+            settings::digits(alloc, setting, facts.inputs)
+        }
+        _ => Ok(Vec::new(alloc)),
     }
 }
 
-// A word of a table.
-pub fn word(table: &[u32; TABLE], at: usize) -> u32 {
-    table[at % TABLE]
-}
-
-fn limits_of(asked: Asked) -> Limits {
-    Limits {
-        size: asked.size,
-        rows: asked.rows,
-        steps: asked.steps,
-    }
-}
-
-// The refusal that was asked for came, or none; the constraint's word is what it was as loaded; the setting is written where the reply is that the
-// sides differ, and left alone where not.
+// The refusal that was asked for came, or none, and the constraint's word is what it was as loaded.
 fn judge(
-    reply: Reply,
-    asked: Asked,
-    facts: Facts,
-    table: &[u32; TABLE],
-    marks: &[u8; VERTICES],
-    setting: &[u8; settings::BYTES],
-    tally: &mut [u32; KINDS],
+    reply: Result<Reply, Refusal>,
+    asked: &Asked,
+    facts: &Facts,
+    memory: &Memory,
+    tally: &mut Tally,
 ) {
-    let difference = difference_of(facts.allowed, asked.output);
-    let written = written_inputs(reply, facts.inputs);
-    tally::hold(tally, refusal_of(reply) == asked.number);
-    tally::hold(tally, word(table, facts.constraint_at) == facts.constraint);
-    tally::hold(tally, settings::holds(setting, difference, written));
+    let differences = facts.differences(asked.output);
+    tally.hold(reply.err() == asked.refusal);
+    tally.hold(memory.word(facts.constraint_at) == facts.constraint);
     match reply {
-        Reply::Equal(counts) => {
-            let is_right = difference == tables::SETTINGS && counts.added == 0;
-            count_reply(tally::EQUAL, is_right, counts, asked, tally);
-            count_equal(difference_of(facts.all, asked.output), tally);
+        Ok(Reply::Equal(counts)) => {
+            count(&mut tally.equal);
+            if differences.all.is_some() {
+                count(&mut tally.equal_by_constraint);
+            }
+            tally.hold(differences.allowed.is_none() && counts.added == 0);
+            hold_limits(counts, asked, tally);
         }
-        Reply::Different(counts) => {
-            let is_right = difference < tables::SETTINGS && counts.added == 0;
-            count_reply(tally::DIFFERENT, is_right, counts, asked, tally);
+        Ok(Reply::Different(counts)) => {
+            count(&mut tally.different);
+            tally.hold(differences.allowed.is_some() && counts.added == 0);
+            hold_limits(counts, asked, tally);
         }
-        Reply::Undecided(cause, counts) => {
-            let is_right = is_cause(cause, counts, asked, facts.vertices, marks);
-            count_reply(kind_of(cause), is_right, counts, asked, tally);
-            tally::hold(tally, !is_large(asked));
+        Ok(Reply::Undecided(cause, counts)) => {
+            count_cause(cause, tally);
+            tally.hold(is_cause(cause, counts, asked, facts, memory));
+            tally.hold(!asked.is_large());
+            hold_limits(counts, asked, tally);
         }
-        Reply::Refused(_) => {
-            tally::count(tally, tally::REFUSED);
-        }
+        Err(_) => count(&mut tally.refused),
     }
 }
 
-// The first difference of an output.
-fn difference_of(differences: Differences, output: u32) -> u32 {
-    match output {
-        0 => differences.first,
-        1 => differences.second,
-        _ => differences.third,
-    }
+// Rows and steps are within their limits.
+fn hold_limits(counts: Counts, asked: &Asked, tally: &mut Tally) {
+    tally.hold(counts.rows <= asked.limits.rows);
+    tally.hold(u64::from(counts.steps) <= asked.limits.steps);
 }
 
-// Counts an Equal to outputs with a difference, which is on a setting that is not allowed.
-fn count_equal(difference: u32, tally: &mut [u32; KINDS]) {
-    if difference < tables::SETTINGS {
-        tally::count(tally, tally::EQUAL_BY_R);
-    }
-}
-
-// The number of a refusal; 0 for an answer.
-fn refusal_of(reply: Reply) -> u32 {
-    let Reply::Refused(number) = reply else {
-        return 0;
-    };
-    number
-}
-
-// How many digits of a setting a reply goes with.
-fn written_inputs(reply: Reply, inputs: u32) -> u32 {
-    let Reply::Different(_) = reply else {
-        return 0;
-    };
-    inputs
-}
-
-// Counts a reply of a kind; rows and steps are within their limits.
-fn count_reply(
-    kind: usize,
-    is_right: bool,
-    counts: Counts,
-    asked: Asked,
-    tally: &mut [u32; KINDS],
-) {
-    tally::count(tally, kind);
-    tally::hold(tally, is_right);
-    tally::hold(tally, counts.rows <= asked.rows);
-    tally::hold(tally, counts.steps as u64 <= asked.steps);
-}
-
-fn is_large(asked: Asked) -> bool {
-    if asked.size != asked::LARGE_SIZE {
-        return false;
-    }
-    if asked.rows != asked::LARGE_ROWS {
-        return false;
-    }
-    asked.steps == asked::LARGE_STEPS as u64
-}
-
-fn kind_of(cause: Cause) -> usize {
+fn count_cause(cause: Cause, tally: &mut Tally) {
     match cause {
-        Cause::Size => tally::SIZE,
-        Cause::Rows(_) => tally::ROWS,
-        Cause::Steps(_) => tally::STEPS,
+        Cause::Size => count(&mut tally.size),
+        Cause::Rows(_) => count(&mut tally.rows),
+        Cause::Steps(_) => count(&mut tally.steps),
     }
 }
 
 // Size: some vertex is marked 2, and no rows are added. Rows and Steps: the vertex named is marked 3, and the limit is used up, after Rows by the
 // rows added too.
-fn is_cause(
-    cause: Cause,
-    counts: Counts,
-    asked: Asked,
-    vertices: u32,
-    marks: &[u8; VERTICES],
-) -> bool {
+fn is_cause(cause: Cause, counts: Counts, asked: &Asked, facts: &Facts, memory: &Memory) -> bool {
     match cause {
-        Cause::Size => counts.added == 0 && has_dropped(marks, vertices),
+        Cause::Size => counts.added == 0 && memory.has_dropped(facts.vertices),
         Cause::Rows(vertex) => {
-            let is_used = counts.rows as u64 + counts.added as u64 == asked.rows as u64;
-            is_used && mark_of(marks, vertex) == 3
+            let used = u64::from(counts.rows) + u64::from(counts.added);
+            used == u64::from(asked.limits.rows) && memory.mark(vertex) == Some(3)
         }
         Cause::Steps(vertex) => {
-            let is_used = counts.steps as u64 == asked.steps;
-            is_used && mark_of(marks, vertex) == 3
+            u64::from(counts.steps) == asked.limits.steps && memory.mark(vertex) == Some(3)
         }
     }
-}
-
-// Whether one of the first vertices is marked 2.
-fn has_dropped(marks: &[u8; VERTICES], vertices: u32) -> bool {
-    let mut vertex = 0;
-    while vertex < vertices {
-        if mark_of(marks, vertex) == 2 {
-            return true;
-        }
-        vertex += 1;
-    }
-    false
-}
-
-fn mark_of(marks: &[u8; VERTICES], vertex: u32) -> u8 {
-    marks[vertex as usize % VERTICES]
 }

@@ -11,6 +11,7 @@ mod circuit;
 mod compared;
 mod evaluated;
 mod file;
+mod memory;
 mod order;
 mod pair;
 mod random;
@@ -19,46 +20,22 @@ mod settings;
 mod tables;
 mod tally;
 
+use crate::memory::Memory;
+use crate::random::Random;
+use crate::tally::Tally;
 use std::io;
 
 // How many pairs are drawn.
 const PAIRS: u32 = 600;
 
-// The words of the longest table, and of each working slice: no drawn pair needs as many.
-const TABLE: usize = load::MAX_TABLE;
-
-// The words of the largest row limit: four a row.
-const ROWS: usize = 32768;
-
-// The bytes of the marks and of the evaluator's values, one a vertex, the two next vertices of a comparison among them.
-const VERTICES: usize = load::MAX_VERTICES + compare_model::NEXT_VERTICES;
-
 // Draws the pairs, one after the other, and prints what came of them.
 fn main(rt: HostRuntime) -> io::Result<()> {
-    let mut table = [0u32; TABLE];
-    let mut pairs = [0u32; TABLE];
-    let mut look = [0u32; TABLE];
-    let mut diagrams = [0u32; TABLE];
-    let mut stages = [0u32; TABLE];
-    let mut rows = [0u32; ROWS];
-    let mut marks = [0u8; VERTICES];
-    let mut tally = [0u32; tally::KINDS];
-    let mut seed: u32 = 7;
-    let mut drawn = 0;
-    while drawn < PAIRS {
-        pair::try_pair(
-            &mut table,
-            &mut pairs,
-            &mut look,
-            &mut diagrams,
-            &mut stages,
-            &mut rows,
-            &mut marks,
-            drawn,
-            &mut seed,
-            &mut tally,
-        );
-        drawn += 1;
+    let alloc = rt.alloc();
+    let mut memory = Memory::new(alloc)?;
+    let mut random = Random::new(7);
+    let mut tally = Tally::new();
+    for number in 0..PAIRS {
+        pair::try_pair(alloc, &mut memory, number, &mut random, &mut tally)?;
     }
-    tally::print(&rt, drawn, &tally)
+    tally.print(&rt, PAIRS)
 }

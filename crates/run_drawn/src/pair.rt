@@ -1,213 +1,164 @@
 // A drawn pair: two circuits, their files, the table, and the comparisons on it.
 ghost use Rattle.std.specs.Prelude.{◌<◌};
 
-use crate::asked::{Differences, Facts};
-use crate::tally::KINDS;
-use crate::{
-    ROWS, TABLE, VERTICES, circuit, compared, evaluated, file, order, rewrite, tables, tally,
-};
-use load::Loaded;
+use crate::circuit::{Circuit, OUTPUTS, Reference};
+use crate::compared::{Differences, Facts, compare_all};
+use crate::evaluated::hold_side;
+use crate::file;
+use crate::memory::Memory;
+use crate::order::Order;
+use crate::random::Random;
+use crate::rewrite::rewrite;
+use crate::tables::{Bits, Truth, first_difference};
+use crate::tally::{Tally, count};
+use load::{Edition, Loaded, Refused};
+use std::alloc::{AllocError, Global};
 
-// Draws two circuits, loads them, makes the comparisons, and evaluates before and after these. `drawn` is the number of pairs drawn before.
-pub fn try_pair(
-    table: &mut [u32; TABLE],
-    pairs: &mut [u32; TABLE],
-    look: &mut [u32; TABLE],
-    diagrams: &mut [u32; TABLE],
-    stages: &mut [u32; TABLE],
-    rows: &mut [u32; ROWS],
-    marks: &mut [u8; VERTICES],
-    drawn: u32,
-    seed: &mut u32,
-    tally: &mut [u32; KINDS],
-) {
-    let mut one = [0u32; circuit::WORDS];
-    let mut two = [0u32; circuit::WORDS];
-    let mut left = [0u64; tables::WORDS];
-    let mut right = [0u64; tables::WORDS];
-    draw_circuits(&mut one, &mut two, drawn, seed, tally);
-    let made = load_pair(
-        &one, &two, drawn, table, pairs, look, diagrams, stages, tally,
-    );
-    tables::tabulate(&one, &mut left);
-    tables::tabulate(&two, &mut right);
-    let facts = facts_of(&one, &two, &left, &right, table, made);
-    hold_values(table, &one, &two, &left, &right, marks, seed, tally);
-    compared::compare_all(
-        table, pairs, look, diagrams, stages, rows, marks, facts, seed, tally,
-    );
-    hold_values(table, &one, &two, &left, &right, marks, seed, tally);
+// A circuit and the tables of its vertices.
+#[derive(Drop)]
+pub struct Side {
+    pub circuit: Circuit,
+    pub truth: Truth,
 }
 
-// Draws a circuit, with its constraint, and writes it another way.
-fn draw_circuits(
-    one: &mut [u32; circuit::WORDS],
-    two: &mut [u32; circuit::WORDS],
-    drawn: u32,
-    seed: &mut u32,
-    tally: &mut [u32; KINDS],
-) {
-    circuit::draw_circuit(one, seed);
-    draw_constraint(one, drawn, tally);
-    rewrite::rewrite(one, two, seed);
+impl Side {
+    fn new(alloc: Global, circuit: Circuit) -> Result<Side, AllocError> {
+        let truth = Truth::of(alloc, &circuit)?;
+        Ok(Side { circuit, truth })
+    }
+}
+
+// Draws two circuits, loads them, makes the comparisons, and evaluates before and after these. `number` is the pair's, counted from 0.
+pub fn try_pair(
+    alloc: Global,
+    memory: &mut Memory,
+    number: u32,
+    random: &mut Random,
+    tally: &mut Tally,
+) -> Result<(), AllocError> {
+    let one = draw_circuit(alloc, number, random, tally)?;
+    let two = rewrite(alloc, &one, random)?;
+    let made = load_pair(alloc, memory, &one, &two, number, tally)?;
+    let left = Side::new(alloc, one)?;
+    let right = Side::new(alloc, two)?;
+    let facts = facts_of(alloc, &left, &right, memory, made)?;
+    hold_side(alloc, memory, 1, &left, random, tally)?;
+    hold_side(alloc, memory, 2, &right, random, tally)?;
+    compare_all(alloc, memory, &facts, random, tally)?;
+    hold_side(alloc, memory, 1, &left, random, tally)?;
+    hold_side(alloc, memory, 2, &right, random, tally)
 }
 
 // A third of the pairs have a constraint, those with names too. It is drawn from the pair's number and not from the seed: the pairs and what is
 // asked of them are those without constraints.
-fn draw_constraint(one: &mut [u32; circuit::WORDS], drawn: u32, tally: &mut [u32; KINDS]) {
-    if drawn / 3 % 3 != 1 {
-        return;
+fn draw_circuit(
+    alloc: Global,
+    number: u32,
+    random: &mut Random,
+    tally: &mut Tally,
+) -> Result<Circuit, AllocError> {
+    let mut circuit = Circuit::draw(alloc, random)?;
+    if number / 3 % 3 == 1 {
+        circuit.draw_constraint(&mut Random::new(number));
+        count(&mut tally.constrained);
     }
-    let mut state = drawn;
-    circuit::draw_constraint(one, &mut state);
-    tally::count(tally, tally::CONSTRAINED);
+    Ok(circuit)
 }
 
-// The order of the second file's inputs, and the edition: every third pair has names, and its inputs are shuffled. The order is drawn from the
-// pair's number and not from the seed: the pairs and all replies are those of inputs in one order.
-fn draw_order(
-    order: &mut [u32; order::WORDS],
-    inputs: u32,
-    drawn: u32,
-    tally: &mut [u32; KINDS],
-) -> u32 {
-    order::begin(order);
-    if drawn % 3 != 2 {
-        return file::BY_PLACE;
+// Every third pair has names, and the inputs of its second file are shuffled. The order is drawn from the pair's number and not from the seed: the
+// pairs and all replies are those of inputs in one order.
+fn draw_order(order: &mut Order, number: u32, tally: &mut Tally) -> Edition {
+    if number % 3 != 2 {
+        return Edition::ByPlace;
     }
-    order::shuffle(order, inputs, drawn);
-    tally::count(tally, tally::BY_NAME);
-    if order::has_cycle(order, inputs) {
-        tally::count(tally, tally::CYCLES);
+    order.shuffle(&mut Random::new(number));
+    count(&mut tally.by_name);
+    if order.has_cycle() {
+        count(&mut tally.cycles);
     }
-    file::BY_NAME
+    Edition::ByName
 }
 
 // Writes both circuits as files, the second with its inputs in an order, and loads them; gives back how many vertices were made.
 fn load_pair(
-    one: &[u32; circuit::WORDS],
-    two: &[u32; circuit::WORDS],
-    drawn: u32,
-    table: &mut [u32; TABLE],
-    pairs: &mut [u32; TABLE],
-    look: &mut [u32; TABLE],
-    literals: &mut [u32; TABLE],
-    outputs: &mut [u32; TABLE],
-    tally: &mut [u32; KINDS],
-) -> u32 {
-    let mut left = [0u8; file::BYTES];
-    let mut right = [0u8; file::BYTES];
-    let mut same = [0u32; order::WORDS];
-    let mut order = [0u32; order::WORDS];
-    order::begin(&mut same);
-    let edition = draw_order(&mut order, circuit::inputs(one), drawn, tally);
-    let left_end = file::write(one, &same, edition, &mut left);
-    let right_end = file::write(two, &order, edition, &mut right);
-    let loaded = load::load(
-        file::front(&left, left_end),
-        file::front(&right, right_end),
-        table,
-        pairs,
-        look,
-        literals,
-        outputs,
-    );
-    made_of(loaded, edition, tally)
+    alloc: Global,
+    memory: &mut Memory,
+    one: &Circuit,
+    two: &Circuit,
+    number: u32,
+    tally: &mut Tally,
+) -> Result<u32, AllocError> {
+    let same = Order::new(alloc, one.inputs)?;
+    let mut order = Order::new(alloc, two.inputs)?;
+    let edition = draw_order(&mut order, number, tally);
+    let left = file::write(alloc, one, &same, edition)?;
+    let right = file::write(alloc, two, &order, edition)?;
+    let loaded = memory.load(left.as_bytes(), right.as_bytes());
+    Ok(made_of(loaded, edition, tally))
 }
 
 // How many vertices were made; a refusal is wrong, and so is another edition than the one written.
-fn made_of(loaded: Loaded, written: u32, kinds: &mut [u32; KINDS]) -> u32 {
-    let Loaded::Accepted { edition, tally } = loaded else {
-        tally::count(kinds, tally::WRONG);
-        return 0;
-    };
-    tally::hold(kinds, edition == written);
-    tally.made
-}
-
-// Evaluates both sides.
-fn hold_values(
-    table: &[u32; TABLE],
-    one: &[u32; circuit::WORDS],
-    two: &[u32; circuit::WORDS],
-    left: &[u64; tables::WORDS],
-    right: &[u64; tables::WORDS],
-    values: &mut [u8; VERTICES],
-    seed: &mut u32,
-    tally: &mut [u32; KINDS],
-) {
-    evaluated::hold_side(table, 1, one, left, values, seed, tally);
-    evaluated::hold_side(table, 2, two, right, values, seed, tally);
+fn made_of(loaded: Result<Loaded, Refused>, written: Edition, tally: &mut Tally) -> u32 {
+    tally.hold(loaded.is_ok_and(|loaded| loaded.edition == written));
+    loaded.map_or(0, |loaded| loaded.tally.made)
 }
 
 // What is known of the two circuits and of their table as loaded.
 fn facts_of(
-    one: &[u32; circuit::WORDS],
-    two: &[u32; circuit::WORDS],
-    left: &[u64; tables::WORDS],
-    right: &[u64; tables::WORDS],
-    table: &[u32; TABLE],
+    alloc: Global,
+    left: &Side,
+    right: &Side,
+    memory: &Memory,
     made: u32,
-) -> Facts {
-    let constraint_at = constraint_at(made, circuit::outputs(one));
-    let constraint = compared::word(table, constraint_at);
-    let beside = 1 + circuit::inputs(one) + next_vertices(constraint);
-    Facts {
-        inputs: circuit::inputs(one),
-        outputs: circuit::outputs(one),
-        vertices: std::num::wrapping_add_u32(made, beside),
+) -> Result<Facts, AllocError> {
+    let made = made as usize;
+    let outputs = left.circuit.outputs.len().min(OUTPUTS);
+    // After the header, the rows and both files' outputs.
+    let constraint_at = 3 + 2 * made + 2 * outputs;
+    let constraint = memory.word(constraint_at);
+    Ok(Facts {
+        inputs: left.circuit.inputs,
+        vertices: 1 + left.circuit.inputs as usize + made + next_vertices(constraint),
         constraint_at,
         constraint,
-        allowed: differences_of(one, two, left, right, circuit::constraint(one)),
-        all: differences_of(one, two, left, right, circuit::TRUE),
-    }
-}
-
-// The place of the constraint's word: after the header, the rows and both files' outputs.
-fn constraint_at(made: u32, outputs: u32) -> usize {
-    3 + 2 * (made as usize) + 2 * (outputs as usize)
+        outputs: differences_of(alloc, left, right)?,
+    })
 }
 
 // How many vertices a comparison has beside those of the table: the ANDs of the constraint with the two outputs, unless it is 1.
-fn next_vertices(constraint: u32) -> u32
+fn next_vertices(constraint: Option<u32>) -> usize
     ensures { result < 3 }
 {
-    if constraint == circuit::TRUE {
+    if constraint == Some(1) {
         0
     } else {
-        compare_model::NEXT_VERTICES as u32
+        compare_model::NEXT_VERTICES
     }
 }
 
-// The first settings on which the outputs of the two circuits differ while r of the first is true.
+// The first differences of each output.
 fn differences_of(
-    one: &[u32; circuit::WORDS],
-    two: &[u32; circuit::WORDS],
-    left: &[u64; tables::WORDS],
-    right: &[u64; tables::WORDS],
-    r: u32,
-) -> Differences {
-    Differences {
-        first: difference_at(one, two, left, right, r, 0),
-        second: difference_at(one, two, left, right, r, 1),
-        third: difference_at(one, two, left, right, r, 2),
+    alloc: Global,
+    left: &Side,
+    right: &Side,
+) -> Result<Vec<Differences>, AllocError> {
+    let all = left.truth.bits(Reference::TRUE);
+    let allowed = left
+        .truth
+        .bits(left.circuit.constraint.unwrap_or(Reference::TRUE));
+    let mut out = Vec::new(alloc);
+    for (one, two) in left
+        .circuit
+        .outputs
+        .iter()
+        .zip(right.circuit.outputs.iter())
+    {
+        let p = left.truth.bits(*one);
+        let q = right.truth.bits(*two);
+        out.push(Differences {
+            allowed: first_difference(p, q, allowed),
+            all: first_difference(p, q, all),
+        })?;
     }
-}
-
-// The same for output k.
-fn difference_at(
-    one: &[u32; circuit::WORDS],
-    two: &[u32; circuit::WORDS],
-    left: &[u64; tables::WORDS],
-    right: &[u64; tables::WORDS],
-    r: u32,
-    k: u32,
-) -> u32 {
-    tables::first_difference(
-        left,
-        circuit::output(one, k),
-        right,
-        circuit::output(two, k),
-        r,
-    )
+    Ok(out)
 }

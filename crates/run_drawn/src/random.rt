@@ -1,45 +1,42 @@
-// A linear congruential generator: its state is the seed, and the upper half of the state is what is drawn from.
+// A linear congruential generator: what is drawn from is the upper half of its state.
 ghost use Rattle.std.specs.Prelude.{◌<◌};
 
-// A number below n.
-pub fn draw(seed: &mut u32, n: u32) -> u32
-    requires { 0 < n }
-    ensures { result < n }
-{
-    let next = step(*seed);
-    *seed = next;
-    reduce(next / 65536, n)
-}
+#[derive(Drop)]
+pub struct Random(u32);
 
-// The larger of two numbers below n: late ones come more often.
-pub fn draw_late(seed: &mut u32, n: u32) -> u32
-    requires { 0 < n }
-    ensures { result < n }
-{
-    let a = draw(seed, n);
-    let b = draw(seed, n);
-    if a < b { b } else { a }
-}
+impl Random {
+    pub fn new(seed: u32) -> Random {
+        Random(seed)
+    }
 
-fn reduce(x: u32, n: u32) -> u32
-    requires { 0 < n }
-    ensures { result < n }
-{
-    x % n
-}
+    fn next(&mut self) -> u32 {
+        self.0 = self.0.wrapping_mul(1664525).wrapping_add(1013904223);
+        self.0 / 65536
+    }
 
-fn step(seed: u32) -> u32 {
-    narrow((wide(seed) * 1664525 + 1013904223) % 4294967296)
-}
+    // A number below n.
+    pub fn draw(&mut self, n: u32) -> u32
+        requires { 0 < n }
+        ensures { result < n }
+    {
+        self.next() % n
+    }
 
-fn wide(x: u32) -> u64
-    ensures { result < 4294967296 }
-{
-    x as u64
-}
+    // An index below n. One generic function for both would need bounds with laws for a single `%`.
+    pub fn index(&mut self, n: usize) -> usize
+        requires { 0 < n }
+        ensures { result < n }
+    {
+        self.next() as usize % n
+    }
 
-fn narrow(x: u64) -> u32
-    requires { x < 4294967296 }
-{
-    x as u32
+    // The larger of two: late ones come more often.
+    pub fn late_index(&mut self, n: usize) -> usize
+        requires { 0 < n }
+        ensures { result < n }
+    {
+        let one = self.index(n);
+        let two = self.index(n);
+        one.max(two)
+    }
 }

@@ -1,172 +1,134 @@
 // The same circuit written another way, gate by gate, or with a fault at one gate.
-use crate::circuit;
-use crate::circuit::{AND, OR, WORDS, XOR};
-use crate::random::{draw, draw_late};
+use crate::circuit::{Circuit, Gate, Operation, Reference};
+use crate::random::Random;
+use std::alloc::{AllocError, Global};
 
-// What became of each vertex: its reference in the other circuit.
-const PLACES: usize = 256;
-
-// A gate number that no circuit has.
-const NO_GATE: u32 = 1000;
-
-// Writes a circuit another way; every second one has a fault.
-pub fn rewrite(from: &[u32; WORDS], to: &mut [u32; WORDS], seed: &mut u32) {
-    circuit::begin(to, circuit::inputs(from), circuit::outputs(from));
-    let mut places = [0u32; PLACES];
-    let fault = draw_fault(circuit::gates(from), seed);
-    place_gates(from, to, &mut places, fault, seed);
-    place_output(from, to, &places, 0);
-    place_output(from, to, &places, 1);
-    place_output(from, to, &places, 2);
+// A circuit written another way; every second one has a fault.
+pub fn rewrite(alloc: Global, from: &Circuit, random: &mut Random) -> Result<Circuit, AllocError> {
+    let fault = draw_fault(from.gates.len(), random);
+    let mut to = Circuit::new(alloc, from.inputs);
+    // What became of each vertex: inputs and the constant keep their references.
+    let mut places = Vec::new(alloc);
+    for vertex in 0..=from.inputs as usize {
+        places.push(Reference::to(vertex))?;
+    }
+    for (at, gate) in from.gates.iter().enumerate() {
+        let form = random.draw(6);
+        let moved = moved(*gate, &places);
+        let place = if fault == Some(at) {
+            add_faulty(&mut to, moved, form, random)?
+        } else {
+            add_alike(&mut to, moved, form)?
+        };
+        places.push(place)?;
+    }
+    for output in from.outputs.iter() {
+        to.outputs.push(place_of(&places, *output))?;
+    }
+    Ok(to)
 }
 
 // The gate that is to be faulty: more often a late one, and every second time none.
-fn draw_fault(gates: u32, seed: &mut u32) -> u32 {
-    if gates == 0 {
-        return NO_GATE;
+fn draw_fault(gates: usize, random: &mut Random) -> Option<usize> {
+    if gates == 0 || random.draw(2) == 0 {
+        return None;
     }
-    if draw(seed, 2) == 0 {
-        return NO_GATE;
-    }
-    draw_late(seed, gates)
+    Some(random.late_index(gates))
 }
 
-fn place_gates(
-    from: &[u32; WORDS],
-    to: &mut [u32; WORDS],
-    places: &mut [u32; PLACES],
-    fault: u32,
-    seed: &mut u32,
-) {
-    let gates = circuit::gates(from);
-    let mut gate = 0;
-    while gate < gates {
-        place_gate(from, to, places, gate, gate == fault, seed);
-        gate += 1;
+fn moved(gate: Gate, places: &[Reference]) -> Gate {
+    Gate {
+        operation: gate.operation,
+        left: place_of(places, gate.left),
+        right: place_of(places, gate.right),
     }
 }
 
-fn place_gate(
-    from: &[u32; WORDS],
-    to: &mut [u32; WORDS],
-    places: &mut [u32; PLACES],
-    gate: u32,
-    faulty: bool,
-    seed: &mut u32,
-) {
-    let operation = circuit::operation(from, gate);
-    let p = place_of(from, places, circuit::left(from, gate));
-    let q = place_of(from, places, circuit::right(from, gate));
-    let vertex = circuit::vertex_of(from, gate);
-    let form = draw(seed, 6);
-    if faulty {
-        let r = add_faulty(to, operation, p, q, form, seed);
-        set_place(places, vertex, r);
-    } else {
-        let r = add_alike(to, operation, p, q, form);
-        set_place(places, vertex, r);
-    }
-}
-
-fn set_place(places: &mut [u32; PLACES], vertex: u32, r: u32) {
-    places[vertex as usize % PLACES] = r;
-}
-
-fn place_output(from: &[u32; WORDS], to: &mut [u32; WORDS], places: &[u32; PLACES], k: u32) {
-    circuit::set_output(to, k, place_of(from, places, circuit::output(from, k)));
-}
-
-// The other circuit's reference for a reference: inputs and the constant keep theirs.
-fn place_of(from: &[u32; WORDS], places: &[u32; PLACES], r: u32) -> u32 {
-    let vertex = r / 2;
-    if vertex <= circuit::inputs(from) {
-        return r;
-    }
-    let place = places[vertex as usize % PLACES];
-    if r % 2 == 0 {
-        place
-    } else {
-        circuit::invert(place)
+// The other circuit's reference for a reference.
+fn place_of(places: &[Reference], r: Reference) -> Reference {
+    match places.get(r.vertex()) {
+        Some(place) => place.onto(r),
+        None => r,
     }
 }
 
 // A gate with another operation, an operand inverted or another operand.
 fn add_faulty(
-    to: &mut [u32; WORDS],
-    operation: u32,
-    p: u32,
-    q: u32,
+    to: &mut Circuit,
+    gate: Gate,
     form: u32,
-    seed: &mut u32,
-) -> u32 {
-    if form < 2 {
-        return circuit::add_gate(to, (operation % 3 + 1 + form) % 3, p, q);
+    random: &mut Random,
+) -> Result<Reference, AllocError> {
+    let Gate {
+        operation,
+        left,
+        right,
+    } = gate;
+    match form {
+        0 => to.add(operation.next(), left, right),
+        1 => to.add(operation.next().next(), left, right),
+        2 | 3 => to.add(operation, left, right.inverted()),
+        _ => {
+            let other = Reference(random.index(to.references()));
+            to.add(operation, left, other)
+        }
     }
-    if form < 4 {
-        return circuit::add_gate(to, operation, p, circuit::invert(q));
-    }
-    let other = draw(seed, circuit::references(to));
-    circuit::add_gate(to, operation, p, other)
 }
 
-// Gates of the same function as one gate.
-fn add_alike(to: &mut [u32; WORDS], operation: u32, p: u32, q: u32, form: u32) -> u32 {
-    if form == 0 {
-        return circuit::add_gate(to, operation, p, q);
+// Gates of the same function as one gate; the form is a drawn number, and no kind that is kept.
+fn add_alike(to: &mut Circuit, gate: Gate, form: u32) -> Result<Reference, AllocError> {
+    match form {
+        0 => to.add(gate.operation, gate.left, gate.right),
+        1 => to.add(gate.operation, gate.right, gate.left),
+        2 => add_dual(to, gate),
+        3 => add_twice(to, gate),
+        4 => add_inverted_twice(to, gate),
+        _ => add_spread(to, gate),
     }
-    if form == 1 {
-        return circuit::add_gate(to, operation, q, p);
-    }
-    if form == 2 {
-        return add_dual(to, operation, p, q);
-    }
-    if form == 3 {
-        return add_twice(to, operation, p, q);
-    }
-    if form == 4 {
-        return add_inverted_twice(to, operation, p, q);
-    }
-    add_spread(to, operation, p, q)
 }
 
 // An or as an inverted and of inversions, an and likewise; an exclusive or with an operand and its result inverted.
-fn add_dual(to: &mut [u32; WORDS], operation: u32, p: u32, q: u32) -> u32 {
-    if operation == AND {
-        let r = circuit::add_gate(to, OR, circuit::invert(p), circuit::invert(q));
-        return circuit::invert(r);
-    }
-    if operation == OR {
-        let r = circuit::add_gate(to, AND, circuit::invert(p), circuit::invert(q));
-        return circuit::invert(r);
-    }
-    let r = circuit::add_gate(to, XOR, circuit::invert(p), q);
-    circuit::invert(r)
+fn add_dual(to: &mut Circuit, gate: Gate) -> Result<Reference, AllocError> {
+    let left = gate.left.inverted();
+    let right = gate.right.inverted();
+    let dual = match gate.operation {
+        Operation::And => to.add(Operation::Or, left, right)?,
+        Operation::Or => to.add(Operation::And, left, right)?,
+        Operation::Xor => to.add(Operation::Xor, left, gate.right)?,
+    };
+    Ok(dual.inverted())
 }
 
 // The gate, the gate again with its operands swapped, and the and of the two.
-fn add_twice(to: &mut [u32; WORDS], operation: u32, p: u32, q: u32) -> u32 {
-    let r = circuit::add_gate(to, operation, p, q);
-    let s = circuit::add_gate(to, operation, q, p);
-    circuit::add_gate(to, AND, r, s)
+fn add_twice(to: &mut Circuit, gate: Gate) -> Result<Reference, AllocError> {
+    let one = to.add(gate.operation, gate.left, gate.right)?;
+    let two = to.add(gate.operation, gate.right, gate.left)?;
+    to.add(Operation::And, one, two)
 }
 
 // The gate's inversion as a gate of its own, inverted again.
-fn add_inverted_twice(to: &mut [u32; WORDS], operation: u32, p: u32, q: u32) -> u32 {
-    let r = circuit::add_gate(to, operation, p, q);
-    let s = circuit::add_gate(to, OR, circuit::invert(r), circuit::invert(r));
-    circuit::invert(s)
+fn add_inverted_twice(to: &mut Circuit, gate: Gate) -> Result<Reference, AllocError> {
+    let one = to.add(gate.operation, gate.left, gate.right)?;
+    let two = to.add(Operation::Or, one.inverted(), one.inverted())?;
+    Ok(two.inverted())
 }
 
 // An exclusive or as two ands and an or; an and or an or by absorption.
-fn add_spread(to: &mut [u32; WORDS], operation: u32, p: u32, q: u32) -> u32 {
-    if operation == AND {
-        let r = circuit::add_gate(to, OR, circuit::invert(p), q);
-        return circuit::add_gate(to, AND, p, r);
+fn add_spread(to: &mut Circuit, gate: Gate) -> Result<Reference, AllocError> {
+    let Gate { left, right, .. } = gate;
+    match gate.operation {
+        Operation::And => {
+            let one = to.add(Operation::Or, left.inverted(), right)?;
+            to.add(Operation::And, left, one)
+        }
+        Operation::Or => {
+            let one = to.add(Operation::And, left.inverted(), right)?;
+            to.add(Operation::Or, left, one)
+        }
+        Operation::Xor => {
+            let one = to.add(Operation::And, left.inverted(), right)?;
+            let two = to.add(Operation::And, left, right.inverted())?;
+            to.add(Operation::Or, one, two)
+        }
     }
-    let r = circuit::add_gate(to, AND, circuit::invert(p), q);
-    if operation == OR {
-        return circuit::add_gate(to, OR, p, r);
-    }
-    let s = circuit::add_gate(to, AND, p, circuit::invert(q));
-    circuit::add_gate(to, OR, r, s)
 }

@@ -1,139 +1,143 @@
-// Truth tables: 16 words of 64 settings for each vertex of a circuit, setting 0 first, input 1 the leading digit. With fewer than ten
-// inputs the table repeats, so that a first difference is always among the settings that there are.
-ghost use Rattle.std.specs.Prelude.{◌<◌};
+// Truth tables: a bit for each of 1,024 settings, setting 0 first, input 1 the leading digit. With fewer than ten inputs the table repeats, so
+// that a first difference is always among the settings that there are.
+use crate::circuit::{Circuit, Operation, Reference};
+use std::alloc::{AllocError, Global};
+use std::array;
+use std::ops::{BitAnd, BitOr, BitXor, Not};
 
-use crate::circuit;
-use crate::circuit::{AND, OR};
+// The words of a table.
+const WORDS: usize = 16;
 
-// The words of 128 vertices.
-pub const WORDS: usize = 2048;
+// The settings of a table.
+pub const SETTINGS: usize = 64 * WORDS;
 
-// The words of a vertex.
-const VERTEX: u32 = 16;
+// A word of the digits that have 0 to 5 digits after them.
+const PATTERNS: [u64; 6] = [
+    0xaaaa_aaaa_aaaa_aaaa,
+    0xcccc_cccc_cccc_cccc,
+    0xf0f0_f0f0_f0f0_f0f0,
+    0xff00_ff00_ff00_ff00,
+    0xffff_0000_ffff_0000,
+    0xffff_ffff_0000_0000,
+];
 
-// The settings of a table, and what stands for no setting.
-pub const SETTINGS: u32 = 1024;
+// A truth table, 64 settings a word.
+#[derive(Clone, Copy)]
+pub struct Bits([u64; WORDS]);
 
-const ONES: u64 = 0xffff_ffff_ffff_ffff;
+impl Bits {
+    const FALSE: Bits = Bits([0; WORDS]);
 
-// The tables of every vertex of a circuit.
-pub fn tabulate(circuit: &[u32; circuit::WORDS], truth: &mut [u64; WORDS]) {
-    write_inputs(circuit::inputs(circuit), truth);
-    write_gates(circuit, truth);
-}
-
-fn write_inputs(inputs: u32, truth: &mut [u64; WORDS]) {
-    let mut i = 0;
-    while i < 2048 {
-        store(
-            truth,
-            i / VERTEX,
-            i % VERTEX,
-            input_word(inputs, i / VERTEX, i % VERTEX),
-        );
-        i += 1;
+    // The digit that has so many digits after it.
+    fn digit(after: u32) -> Bits {
+        Bits(array::from_fn(|k| digit_word(after, k)))
     }
-}
 
-fn write_gates(circuit: &[u32; circuit::WORDS], truth: &mut [u64; WORDS]) {
-    let words = VERTEX * circuit::gates(circuit);
-    let mut i = 0;
-    while i < words {
-        write_gate_word(circuit, truth, i / VERTEX, i % VERTEX);
-        i += 1;
-    }
-}
-
-fn write_gate_word(circuit: &[u32; circuit::WORDS], truth: &mut [u64; WORDS], gate: u32, k: u32) {
-    let p = word(truth, circuit::left(circuit, gate), k);
-    let q = word(truth, circuit::right(circuit, gate), k);
-    let value = combine(circuit::operation(circuit, gate), p, q);
-    store(truth, circuit::vertex_of(circuit, gate), k, value);
-}
-
-fn combine(operation: u32, p: u64, q: u64) -> u64 {
-    if operation == AND {
-        return p & q;
-    }
-    if operation == OR {
-        return p | q;
-    }
-    p ^ q
-}
-
-// Word k of a vertex.
-fn place(vertex: u32, k: u32) -> usize
-    ensures { result < 2048 }
-{
-    (vertex % 128 * 16 + k % 16) as usize
-}
-
-fn store(truth: &mut [u64; WORDS], vertex: u32, k: u32, value: u64) {
-    let at = place(vertex, k);
-    truth[at] = value;
-}
-
-// Word k of a reference.
-pub fn word(truth: &[u64; WORDS], r: u32, k: u32) -> u64 {
-    let at = place(r / 2, k);
-    let value = truth[at];
-    if r % 2 == 0 { value } else { value ^ ONES }
-}
-
-// Word k of an input; the constant and gates not yet written are 0.
-fn input_word(inputs: u32, vertex: u32, k: u32) -> u64 {
-    if vertex == 0 {
-        return 0;
-    }
-    if inputs < vertex {
-        return 0;
-    }
-    place_word(inputs - vertex, k)
-}
-
-// Word k of the digit that has so many digits after it.
-fn place_word(after: u32, k: u32) -> u64 {
-    match after {
-        0 => 0xaaaa_aaaa_aaaa_aaaa,
-        1 => 0xcccc_cccc_cccc_cccc,
-        2 => 0xf0f0_f0f0_f0f0_f0f0,
-        3 => 0xff00_ff00_ff00_ff00,
-        4 => 0xffff_0000_ffff_0000,
-        5 => 0xffff_ffff_0000_0000,
-        6 => spread(k % 2),
-        7 => spread(k / 2 % 2),
-        8 => spread(k / 4 % 2),
-        _ => spread(k / 8 % 2),
-    }
-}
-
-// A digit, 64 times.
-fn spread(digit: u32) -> u64 {
-    if digit == 0 { 0 } else { ONES }
-}
-
-// The value of a reference on a setting.
-pub fn value(truth: &[u64; WORDS], r: u32, setting: u32) -> u8 {
-    let bits = word(truth, r, setting / 64) >> (setting % 64);
-    if bits % 2 == 0 { 0 } else { 1 }
-}
-
-// The first setting on which r of the first circuit is true and the two references p and q differ, or SETTINGS.
-pub fn first_difference(one: &[u64; WORDS], p: u32, two: &[u64; WORDS], q: u32, r: u32) -> u32 {
-    let mut k = 0;
-    while k < VERTEX {
-        let differing = (word(one, p, k) ^ word(two, q, k)) & word(one, r, k);
-        if differing != 0 {
-            return 64 * k + lowest(differing);
+    // The value on a setting.
+    pub fn value(&self, setting: usize) -> u8 {
+        let word = self.0[setting / 64 % WORDS];
+        if word >> (setting % 64) & 1 == 0 {
+            0
+        } else {
+            1
         }
-        k += 1;
     }
-    SETTINGS
+
+    // The first setting on which the value is 1.
+    fn first(&self) -> Option<usize> {
+        for (k, word) in self.0.iter().enumerate() {
+            if *word != 0 {
+                return Some(64 * k + word.trailing_zeros() as usize);
+            }
+        }
+        None
+    }
 }
 
-// The place of the lowest digit 1.
-fn lowest(bits: u64) -> u32
-    ensures { result < 64 }
-{
-    u64::trailing_zeros(bits) % 64
+fn digit_word(after: u32, k: usize) -> u64 {
+    match PATTERNS.get(after as usize) {
+        Some(pattern) => *pattern,
+        None if k.wrapping_shr(after.saturating_sub(6)) & 1 == 0 => 0,
+        None => u64::MAX,
+    }
+}
+
+impl Not for Bits {
+    type Output = Bits;
+
+    fn not(self) -> Bits {
+        Bits(self.0.map(|word| !word))
+    }
+}
+
+impl BitAnd for Bits {
+    type Output = Bits;
+
+    fn bitand(mut self, other: Bits) -> Bits {
+        for (word, x) in self.0.iter_mut().zip(other.0.iter()) {
+            *word &= *x;
+        }
+        self
+    }
+}
+
+impl BitOr for Bits {
+    type Output = Bits;
+
+    fn bitor(mut self, other: Bits) -> Bits {
+        for (word, x) in self.0.iter_mut().zip(other.0.iter()) {
+            *word |= *x;
+        }
+        self
+    }
+}
+
+impl BitXor for Bits {
+    type Output = Bits;
+
+    fn bitxor(mut self, other: Bits) -> Bits {
+        for (word, x) in self.0.iter_mut().zip(other.0.iter()) {
+            *word ^= *x;
+        }
+        self
+    }
+}
+
+// The tables of a circuit's vertices.
+#[derive(Drop)]
+pub struct Truth(Vec<Bits>);
+
+impl Truth {
+    pub fn of(alloc: Global, circuit: &Circuit) -> Result<Truth, AllocError> {
+        let mut vertices = vec![in alloc; Bits::FALSE]?;
+        for after in (0..circuit.inputs).rev() {
+            vertices.push(Bits::digit(after))?;
+        }
+        let mut truth = Truth(vertices);
+        for gate in circuit.gates.iter() {
+            let left = truth.bits(gate.left);
+            let right = truth.bits(gate.right);
+            truth.0.push(combine(gate.operation, left, right))?;
+        }
+        Ok(truth)
+    }
+
+    // The table of a reference.
+    pub fn bits(&self, r: Reference) -> Bits {
+        let bits = self.0.get(r.vertex()).copied().unwrap_or(Bits::FALSE);
+        if r.is_inverted() { !bits } else { bits }
+    }
+}
+
+fn combine(operation: Operation, p: Bits, q: Bits) -> Bits {
+    match operation {
+        Operation::And => p & q,
+        Operation::Or => p | q,
+        Operation::Xor => p ^ q,
+    }
+}
+
+// The first setting that is allowed and on which two tables differ.
+pub fn first_difference(p: Bits, q: Bits, allowed: Bits) -> Option<usize> {
+    ((p ^ q) & allowed).first()
 }

@@ -2,68 +2,66 @@
 // many replies of each kind came, and how many answers were wrong.
 use std::io;
 
-pub const KINDS: usize = 11;
-
-pub const EQUAL: usize = 0;
-
-pub const DIFFERENT: usize = 1;
-
-pub const SIZE: usize = 2;
-
-pub const ROWS: usize = 3;
-
-pub const STEPS: usize = 4;
-
-pub const REFUSED: usize = 5;
-
-pub const WRONG: usize = 6;
-
-pub const BY_NAME: usize = 7;
-
-pub const CYCLES: usize = 8;
-
-pub const CONSTRAINED: usize = 9;
-
-pub const EQUAL_BY_R: usize = 10;
-
-pub fn count(tally: &mut [u32; KINDS], kind: usize) {
-    tally[kind % KINDS] = std::num::wrapping_add_u32(tally[kind % KINDS], 1);
+#[derive(Drop)]
+pub struct Tally {
+    pub by_name: u32,
+    pub cycles: u32,
+    pub constrained: u32,
+    pub equal_by_constraint: u32,
+    pub equal: u32,
+    pub different: u32,
+    pub size: u32,
+    pub rows: u32,
+    pub steps: u32,
+    pub refused: u32,
+    pub wrong: u32,
 }
 
-// Counts what does not hold.
-pub fn hold(tally: &mut [u32; KINDS], holds: bool) {
-    if holds {
-        return;
+impl Tally {
+    pub fn new() -> Tally {
+        Tally {
+            by_name: 0,
+            cycles: 0,
+            constrained: 0,
+            equal_by_constraint: 0,
+            equal: 0,
+            different: 0,
+            size: 0,
+            rows: 0,
+            steps: 0,
+            refused: 0,
+            wrong: 0,
+        }
     }
-    count(tally, WRONG);
+
+    // Counts what does not hold.
+    pub fn hold(&mut self, holds: bool) {
+        if !holds {
+            count(&mut self.wrong);
+        }
+    }
+
+    // Prints how many pairs there were, and the counts of each kind.
+    pub fn print(&self, rt: &impl Print, pairs: u32) -> io::Result<()> {
+        print_line(rt, "pairs", pairs)?;
+        print_line(rt, "by name", self.by_name)?;
+        print_line(rt, "cycles of three", self.cycles)?;
+        print_line(rt, "with r", self.constrained)?;
+        print_line(rt, "equal by r", self.equal_by_constraint)?;
+        print_line(rt, "equal", self.equal)?;
+        print_line(rt, "different", self.different)?;
+        print_line(rt, "size", self.size)?;
+        print_line(rt, "rows", self.rows)?;
+        print_line(rt, "steps", self.steps)?;
+        print_line(rt, "refused", self.refused)?;
+        print_line(rt, "wrong", self.wrong)
+    }
 }
 
-// Prints how many pairs there were, and the counts of each kind.
-pub fn print(rt: &impl Print, pairs: u32, tally: &[u32; KINDS]) -> io::Result<()> {
-    print_line(rt, b"pairs ", pairs)?;
-    print_kind(rt, b"by name ", tally, BY_NAME)?;
-    print_kind(rt, b"cycles of three ", tally, CYCLES)?;
-    print_kind(rt, b"with r ", tally, CONSTRAINED)?;
-    print_kind(rt, b"equal by r ", tally, EQUAL_BY_R)?;
-    print_kind(rt, b"equal ", tally, EQUAL)?;
-    print_kind(rt, b"different ", tally, DIFFERENT)?;
-    print_kind(rt, b"size ", tally, SIZE)?;
-    print_kind(rt, b"rows ", tally, ROWS)?;
-    print_kind(rt, b"steps ", tally, STEPS)?;
-    print_kind(rt, b"refused ", tally, REFUSED)?;
-    print_kind(rt, b"wrong ", tally, WRONG)
+pub fn count(n: &mut u32) {
+    *n = n.saturating_add(1);
 }
 
-fn print_kind(rt: &impl Print, word: &[u8], tally: &[u32; KINDS], kind: usize) -> io::Result<()> {
-    print_line(rt, word, tally[kind % KINDS])
-}
-
-fn print_line(rt: &impl Print, word: &[u8], number: u32) -> io::Result<()> {
-    rt.write_all(word)?;
-    rt.print(wide(number))?;
-    rt.write_all(b"\n")
-}
-
-fn wide(n: u32) -> u64 {
-    n as u64
+fn print_line(rt: &impl Print, name: &str, n: u32) -> io::Result<()> {
+    println!(rt; "{name} {n}")
 }

@@ -2,10 +2,9 @@
 // line's reference where it is not 1.
 #![tactic(auto)]
 
-ghost use Rattle.std.specs.Prelude.{◌<◌, ◌≤◌, length};
+ghost use Rattle.std.specs.Prelude.{◌≤◌, length};
 
-use netlist::{Checked, check};
-use netlist_model::Role;
+use netlist::{Rejected, Role, check};
 use run_card_file::{field, number};
 use std::{fs, io};
 
@@ -18,38 +17,36 @@ const LONGEST: usize = 65134;
 fn show(rt: &impl Print, name: &[u8], file: &[u8], role: Role) -> io::Result<()> {
     rt.write_all(name)?;
     match check::check_file(file, role) {
-        Checked::Accepted(summary) => {
-            print(rt, b": accepted, edition ", summary.edition as u64)?;
-            print(rt, b" inputs ", summary.inputs as u64)?;
-            print(rt, b" names ", summary.names as u64)?;
-            print(rt, b" gates ", summary.gates as u64)?;
-            print(rt, b" outputs ", summary.outputs as u64)?;
-            print(rt, b" ands ", summary.ands as u64)?;
+        Ok(summary) => {
+            print(rt, b": accepted, edition ", u32::from(summary.edition))?;
+            print(rt, b" inputs ", summary.inputs)?;
+            print(rt, b" names ", summary.names)?;
+            print(rt, b" gates ", summary.gates)?;
+            print(rt, b" outputs ", summary.outputs)?;
+            print(rt, b" ands ", summary.ands)?;
             if summary.reference != 1 {
-                print(rt, b" reference ", summary.reference as u64)?;
+                print(rt, b" reference ", summary.reference)?;
             }
-            print(rt, b" start ", summary.start as u64)?;
+            rt.write_all(b" start ")?;
+            rt.print(summary.start as u64)?;
         }
-        Checked::Refused { number, line } => {
-            print(rt, b": refused ", number as u64)?;
-            print(rt, b" line ", line as u64)?;
+        Err(Rejected { refusal, line }) => {
+            print(rt, b": refused ", u32::from(refusal))?;
+            print(rt, b" line ", line)?;
         }
     }
     rt.write_all(b"\n")
 }
 
-fn print(rt: &impl Print, name: &[u8], number: u64) -> io::Result<()> {
+fn print(rt: &impl Print, name: &[u8], number: u32) -> io::Result<()> {
     rt.write_all(name)?;
-    rt.print(number)
+    rt.print(u64::from(number))
 }
 
 // The files of `files.txt`, a card each: a name, the file and, where it is a second file, the edition of the first.
 fn show_cards(rt: &impl Print, file: &[u8]) -> io::Result<()> {
-    let count = run_card_file::card_count(file);
-    let mut k = 0;
-    while k < count {
+    for k in 0..run_card_file::card_count(file) {
         show_card(rt, run_card_file::card(file, k))?;
-        k += 1;
     }
     Ok(())
 }
@@ -71,7 +68,7 @@ fn role_of(edition: u32) -> Role {
     Role::Second(edition)
 }
 
-// Writes the longest good file of edition 1, and shows it without its C line and with it.
+// Writes the longest good file of edition 1, and shows it without its C line and with it. The file is an array of just that length.
 fn longest(rt: &impl Print) -> io::Result<()> {
     let mut file = [0u8; LONGEST];
     repeat(b"N\t1\t64\t4096\t64\n", &mut file, 0, 15);
@@ -101,13 +98,11 @@ fn show_front(rt: &impl Print, name: &[u8], file: &[u8], end: usize) -> io::Resu
 
 // Writes a line again and again from `from` up to `to`.
 fn repeat(line: &[u8], file: &mut [u8; LONGEST], from: usize, to: usize)
-    requires line_nonzero { 0 < length line.now }
-    requires to_bound { to ≤ 65134 }
+    requires from_bound { from ≤ to }
+    requires to_bound { to ≤ LONGEST }
 {
-    let mut at = from;
-    while at < to {
-        file[at] = line[(at - from) % line.len()];
-        at += 1;
+    for (b, a) in file[from..to].iter_mut().zip(line.iter().cycle()) {
+        *b = *a;
     }
 }
 

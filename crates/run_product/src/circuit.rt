@@ -2,23 +2,23 @@
 // 1 if inverted.
 ghost use Rattle.std.specs.Prelude.{◌≤◌};
 
-use crate::at_most;
 use run_card_file::{number_at, number_count};
 
-// The most vertices, and two words of operands for each.
+// The most vertices.
 pub const VERTICES: usize = 128;
 
-pub const WORDS: usize = 256;
+// Two literals for each vertex.
+pub type Operands = [(usize, usize); VERTICES];
 
-// Writes the words of a circuit, as many as there is room for, and gives back how many vertices they are.
-pub fn read(field: &[u8], words: &mut [usize; WORDS]) -> usize
+// Writes the operands of a circuit, as many as there is room for, and gives back how many vertices they are.
+pub fn read(field: &[u8], operands: &mut Operands) -> usize
     ensures { result ≤ 128 }
 {
-    let count = at_most(number_count(field), WORDS);
-    let mut i = 0;
-    while i < count {
-        words[i] = number_at(field, i) as usize;
-        i += 1;
+    let vertices = (number_count(field) / 2).min(VERTICES);
+    for v in 0..vertices {
+        let p = number_at(field, v * 2);
+        let q = number_at(field, v * 2 + 1);
+        operands[v] = (p as usize, q as usize);
     }
-    i / 2
+    vertices
 }

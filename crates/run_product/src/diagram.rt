@@ -1,198 +1,102 @@
 // The diagrams of a circuit's vertices, made by products one after the other.
-ghost use Rattle.std.specs.Prelude.{◌%◌, ◌/◌, ◌<◌, ◌^◌, ◌≤◌, get_or, ◌≡◌};
+// The store and the references are lent beside each other: of rows in a store that another struct holds, a caller's proof knew nothing at the end.
+ghost use Rattle.std.specs.Prelude.{◌%◌, ◌/◌, ◌<◌, ◌≤◌, get_or, ◌≡◌};
 ghost use Rattle.bdd.specs.Diagram.{edge};
-ghost use Rattle.bdd.specs.code.Store.{Store};
-ghost use Rattle.bdd_unique.specs.code.Unique.{GivenBack};
-ghost use Rattle.run_product.specs.code.Held.{Held, Turned};
+ghost use Rattle.bdd.specs.code.Slice.{SameSlice};
+ghost use Rattle.run_product.specs.code.Held.{Held};
 
-use crate::circuit::{VERTICES, WORDS};
+use crate::circuit::{Operands, VERTICES};
 use bdd::references::edge_to;
-use bdd_unique::Made;
-use product::Product;
+use bdd::store::RowStore;
+use bdd_unique::{give_back, make};
+use product::{Short, Steps, multiply};
 
-// How far a circuit came: the next vertex and the one to stop at, the rows and the steps; the end is 0 while no product was short, 1 short
-// of rows, 2 short of steps.
+// The references of the vertices.
+pub type References = [usize; VERTICES];
+
+// How far a circuit came: the next vertex, and the limit that a product passed.
 #[derive(Clone, Copy)]
 pub struct Turn {
     pub next: usize,
-    pub stop: usize,
-    pub used: usize,
-    pub steps: usize,
-    pub end: usize,
+    pub short: Option<Short>,
 }
 
-// The row of input i, at its level.
-fn input_row(
-    rows: &mut [u32],
-    used: usize,
-    limit: usize,
-    inputs: usize,
-    i: usize,
-    references: &mut [usize; VERTICES],
-) -> usize
-    requires held { Held rows.old references.old limit used inputs }
-    requires few { (1 ≤ i) × (i ≤ inputs) × (inputs ≤ 10) }
-    ensures { Held rows.new references.new limit result inputs }
-{
-    let made = bdd_unique::make(rows, used, limit, inputs + 1 - i, 0, 1);
-    match made {
-        Made::At {
-            reference,
-            used: more,
-        } => {
-            references[i] = reference;
-            more
-        }
-        Made::Full => used,
-    }
-}
-
-// The rows of all inputs.
-pub fn input_rows(
-    rows: &mut [u32],
-    limit: usize,
-    inputs: usize,
-    references: &mut [usize; VERTICES],
-) -> usize
-    requires held { Held rows.old references.old limit 0 inputs }
+// The rows of the inputs, each at its level, where there is room.
+pub fn input_rows(store: &mut RowStore<'_>, references: &mut References, inputs: usize)
+    requires held { Held store.old.rows.now references.old store.old.used inputs }
     requires few { inputs ≤ 10 }
-    ensures { Held rows.new references.new limit result inputs }
+    ensures same { SameSlice store.old store.new }
+    ensures held { Held store.new.rows.now references.new store.new.used inputs }
 {
-    let mut used = 0;
-    let mut i = 1;
-    while i <= inputs {
-        used = input_row(rows, used, limit, inputs, i, references);
-        i += 1;
+    for i in 1..inputs + 1 {
+        if let Some(r) = make(store, inputs + 1 - i, 0, 1) {
+            references[i] = r;
+        }
     }
-    used
 }
 
 // The reference of a literal.
-fn reference_of(references: &[usize; VERTICES], p: usize) -> usize
+fn reference_of(references: &References, p: usize) -> usize
     ensures { result ≡ edge (get_or references.now (p / 2 % 128) 0) p }
 {
-    let v = p / 2 % VERTICES;
-    edge_to(references[v], p)
+    edge_to(references[p / 2 % VERTICES], p)
 }
 
-// A product for vertex v was short: its new rows are given back, and the circuit stops.
-fn break_off(
-    rows: &mut [u32],
-    used: usize,
-    limit: usize,
-    kept: usize,
-    v: usize,
-    steps: usize,
-    end: usize,
-) -> Turn
-    requires store { Store rows.old limit used }
-    requires fewer { kept ≤ used }
-    ensures back { GivenBack rows.old rows.new limit used kept }
-    ensures turn { (result.next ≡ v) × (result.stop ≡ v) × (result.used ≡ kept) × (result.steps ≡ steps) }
-{
-    bdd_unique::give_back(rows, used, limit, kept);
-    Turn {
-        next: v,
-        stop: v,
-        used: kept,
-        steps,
-        end,
-    }
-}
-
-// The product of two literals for vertex v. A shortfall gives its new rows back, and is the end.
-fn and_of(
-    rows: &mut [u32],
-    used: usize,
-    limit: usize,
+// The product of two literals for vertex v. A shortfall gives its new rows back.
+fn and(
+    store: &mut RowStore<'_>,
+    references: &mut References,
     inputs: usize,
-    references: &mut [usize; VERTICES],
     v: usize,
-    stop: usize,
-    p: usize,
-    q: usize,
-    steps: usize,
-    most: usize,
-) -> Turn
-    requires held { Held rows.old references.old limit used inputs }
-    requires few { (inputs ≤ 10) × (v < stop) × (stop ≤ 128) × (steps ≤ most) × (most < 2 ^ 32) }
-    ensures { Turned rows.new references.new limit inputs most v stop result }
+    literals: (usize, usize),
+    steps: &mut Steps,
+) -> Result<(), Short>
+    requires held { Held store.old.rows.now references.old store.old.used inputs }
+    requires few { (inputs ≤ 10) × (v < 128) }
+    ensures same { SameSlice store.old store.new }
+    ensures held { Held store.new.rows.now references.new store.new.used inputs }
 {
+    let (p, q) = literals;
     let f = reference_of(references, p);
     let g = reference_of(references, q);
-    let answer = product::multiply(rows, used, limit, f, g, inputs, steps, most);
-    match answer {
-        Product::Done {
-            reference,
-            used: more,
-            steps: taken,
-        } => {
-            references[v] = reference;
-            Turn {
-                next: v + 1,
-                stop,
-                used: more,
-                steps: taken,
-                end: 0,
-            }
+    let kept = store.used;
+    match multiply(store, f, g, inputs, steps) {
+        Ok(r) => {
+            references[v] = r;
+            Ok(())
         }
-        Product::ShortOfRows {
-            used: more,
-            steps: taken,
-        } => break_off(rows, more, limit, used, v, taken, 1),
-        Product::ShortOfSteps {
-            used: more,
-            steps: taken,
-        } => break_off(rows, more, limit, used, v, taken, 2),
+        Err(short) => {
+            give_back(store, kept);
+            Err(short)
+        }
     }
 }
 
 // The products of the vertices after the inputs up to n, until one is short.
 pub fn ands(
-    rows: &mut [u32],
-    first: usize,
-    limit: usize,
+    store: &mut RowStore<'_>,
+    references: &mut References,
     inputs: usize,
-    references: &mut [usize; VERTICES],
-    words: &[usize; WORDS],
+    operands: &Operands,
     n: usize,
-    most: usize,
+    steps: &mut Steps,
 ) -> Turn
-    requires held { Held rows.old references.old limit first inputs }
-    requires few { (inputs ≤ 10) × (n ≤ 128) × (most < 2 ^ 32) }
-    ensures held { Held rows.new references.new limit result.used inputs }
+    requires held { Held store.old.rows.now references.old store.old.used inputs }
+    requires few { (inputs ≤ 10) × (n ≤ 128) }
+    ensures same { SameSlice store.old store.new }
+    ensures held { Held store.new.rows.now references.new store.new.used inputs }
     ensures next { (1 ≤ result.next) × (result.next ≤ 128) }
 {
-    let mut next = inputs + 1;
-    let mut stop = n;
-    let mut used = first;
-    let mut steps = 0;
-    let mut end = 0;
-    while next < stop {
-        let t = and_of(
-            rows,
-            used,
-            limit,
-            inputs,
-            references,
-            next,
-            stop,
-            words[next * 2],
-            words[next * 2 + 1],
-            steps,
-            most,
-        );
-        next = t.next;
-        stop = t.stop;
-        used = t.used;
-        steps = t.steps;
-        end = t.end;
+    for v in inputs + 1..n {
+        if let Err(short) = and(store, references, inputs, v, operands[v], steps) {
+            return Turn {
+                next: v,
+                short: Some(short),
+            };
+        }
     }
     Turn {
-        next,
-        stop,
-        used,
-        steps,
-        end,
+        next: n.max(inputs + 1),
+        short: None,
     }
 }

@@ -7,12 +7,14 @@ mod circuit;
 mod diagram;
 mod values;
 
-ghost use Rattle.std.specs.Prelude.{◌<◌, ◌^◌, ◌≤◌, ℕ, get_or, length, ◌≡◌};
+ghost use Rattle.std.specs.Prelude.{IfOk, ◌<◌, ◌^◌, ◌≤◌, length, ◌≡◌};
 ghost use Rattle.bdd.specs.code.Store.{Store};
 
-use circuit::{VERTICES, WORDS};
-use diagram::Turn;
-use run_card_file::{card, card_count, field, number};
+use bdd::store::RowStore;
+use circuit::VERTICES;
+use diagram::{ands, input_rows};
+use product::{Short, Steps};
+use run_card_file::{card_count, field, number};
 use std::{fs, io};
 
 // Room for 1,024 rows.
@@ -31,13 +33,18 @@ fn print(rt: &impl Print, what: &[u8], x: usize) -> io::Result<()> {
     rt.print(x)
 }
 
+// A number of its limit.
+fn print_of(rt: &impl Print, what: &[u8], x: usize, limit: usize) -> io::Result<()> {
+    print(rt, what, x)?;
+    print(rt, b" of ", limit)
+}
+
 // The limit passed, if any, and whether all values agree.
-fn verdict(rt: &impl Print, end: usize, wrong: usize) -> io::Result<()> {
-    if end == 1 {
-        rt.write_all(b", short of rows")?;
-    }
-    if end == 2 {
-        rt.write_all(b", short of steps")?;
+fn verdict(rt: &impl Print, short: Option<Short>, wrong: usize) -> io::Result<()> {
+    match short {
+        Some(Short::Rows) => rt.write_all(b", short of rows")?,
+        Some(Short::Steps) => rt.write_all(b", short of steps")?,
+        None => {}
     }
     if wrong == 0 {
         rt.write_all(b", ok\n")
@@ -46,107 +53,66 @@ fn verdict(rt: &impl Print, end: usize, wrong: usize) -> io::Result<()> {
     }
 }
 
-// How far a circuit came, against its limits.
-fn show(
-    rt: &impl Print,
-    name: &[u8],
-    size: usize,
-    t: Turn,
-    limit: usize,
-    most: usize,
-    wrong: usize,
-) -> io::Result<()> {
-    rt.write_all(name)?;
-    print(rt, b": size ", size)?;
-    print(rt, b", rows ", t.used)?;
-    print(rt, b" of ", limit)?;
-    print(rt, b", steps ", t.steps)?;
-    print(rt, b" of ", most)?;
-    verdict(rt, t.end, wrong)
-}
-
-fn no_references() -> [usize; VERTICES]
-    ensures { (v : ℕ) → get_or result v 0 ≡ 0 }
-{
-    [0; VERTICES]
-}
-
-// One circuit of n vertices; its rows are given back at the end.
-fn run(
-    rt: &impl Print,
-    name: &[u8],
-    rows: &mut [u32],
-    limit: usize,
-    most: usize,
-    inputs: usize,
-    settings: usize,
-    words: &[usize; WORDS],
-    n: usize,
-) -> io::Result<()>
-    requires store { Store rows.old limit 0 }
-    requires few { (inputs ≤ 10) × (settings ≤ 1024) × (n ≤ 128) × (most < 2 ^ 32) }
-    ensures { Store rows.new limit 0 }
-{
-    let mut references = no_references();
-    let first = diagram::input_rows(rows, limit, inputs, &mut references);
-    let t = diagram::ands(rows, first, limit, inputs, &mut references, words, n, most);
-    let wrong = values::mismatches(rows, inputs, settings, &references, words, t.next);
-    let last = t.next - 1;
-    let size = bdd_size::size(rows, t.used, limit, references[last]);
-    let shown = show(rt, name, size, t, limit, most, wrong);
-    bdd_unique::give_back(rows, t.used, limit, 0);
-    shown
-}
-
 // The number in a field of a card, or the most.
 fn number_in(card: &[u8], k: usize, most: usize) -> usize
     ensures { result ≤ most }
 {
-    at_most(number(field(card, k)) as usize, most)
+    (number(field(card, k)) as usize).min(most)
 }
 
-fn at_most(n: usize, most: usize) -> usize
-    ensures { result ≤ most }
-{
-    if n <= most { n } else { most }
-}
-
-// The rows under their next limit: cleared only where that is another one.
-fn set_limit(rows: &mut [u32], limit: usize, next: usize)
+// Empty rows under their next limit: cleared only where that is another one.
+fn store_under<'a>(rows: &'a mut [u32], limit: usize, next: usize) -> RowStore<'a>
     requires store { Store rows.old limit 0 }
     requires room { (next ≤ 1024) × (4096 ≡ length rows.old) }
-    ensures { Store rows.new next 0 }
+    ensures { (result.rows.ghost_name ≡ rows.entry.ghost_name) × (result.limit ≡ next) × (result.used ≡ 0) }
 {
-    if next != limit {
-        bdd_unique::clear(rows, next);
+    if next == limit {
+        return RowStore {
+            rows,
+            limit,
+            used: 0,
+        };
     }
+    bdd_unique::clear(rows, next)
 }
 
-// Runs the circuit of a card under its limit on rows. Under the limit of the card before it uses the rows again that were given back.
-fn run_card(rt: &impl Print, card: &[u8], rows: &mut [u32], limit: &mut usize) -> io::Result<()>
-    requires store { Store rows.old limit.old 0 }
+// Runs the circuit of a card under its limit on rows, which is the result. Under the limit of the card before it uses the rows again that were
+// given back.
+fn run_card(rt: &impl Print, card: &[u8], rows: &mut [u32], limit: usize) -> io::Result<usize>
+    requires store { Store rows.old limit 0 }
     requires room { 4096 ≡ length rows.old }
-    ensures { Store rows.new limit.new 0 }
+    ensures { IfOk result (λ next. Store rows.new next 0) }
 {
     let next = number_in(card, 1, MAX_ROWS);
-    set_limit(rows, *limit, next);
-    *limit = next;
-    let most = number_in(card, 2, MAX_STEPS);
+    let mut steps = Steps {
+        taken: 0,
+        most: number_in(card, 2, MAX_STEPS),
+    };
     let inputs = number_in(card, 3, MAX_INPUTS);
     let settings = number_in(card, 4, MAX_SETTINGS);
-    let mut words = [0usize; WORDS];
-    let n = circuit::read(field(card, 6), &mut words);
-    run(
-        rt,
-        field(card, 0),
-        rows,
-        next,
-        most,
+    let mut operands = [(0, 0); VERTICES];
+    let n = circuit::read(field(card, 6), &mut operands);
+    let mut store = store_under(rows, limit, next);
+    let mut references = [0; VERTICES];
+    input_rows(&mut store, &mut references, inputs);
+    let turn = ands(
+        &mut store,
+        &mut references,
         inputs,
-        settings,
-        &words,
+        &operands,
         n,
-    )
+        &mut steps,
+    );
+    let wrong = values::mismatches(&store, inputs, settings, &references, &operands, turn.next);
+    let size = bdd_size::size(&mut store, references[turn.next - 1]);
+    let rows = store.used;
+    bdd_unique::give_back(&mut store, 0);
+    rt.write_all(field(card, 0))?;
+    print(rt, b": size ", size)?;
+    print_of(rt, b", rows ", rows, next)?;
+    print_of(rt, b", steps ", steps.taken, steps.most)?;
+    verdict(rt, turn.short, wrong)?;
+    Ok(next)
 }
 
 // Runs the cards one after the other.
@@ -154,24 +120,15 @@ fn run_cards(rt: &impl Print, file: &[u8], rows: &mut [u32]) -> io::Result<()>
     requires { 4096 ≡ length rows.old }
 {
     bdd_unique::clear(rows, MAX_ROWS);
-    let count = card_count(file);
     let mut limit = MAX_ROWS;
-    let mut k = 0;
-    while k < count {
-        run_card(rt, card(file, k), rows, &mut limit)?;
-        k += 1;
+    for k in 0..card_count(file) {
+        limit = run_card(rt, run_card_file::card(file, k), rows, limit)?;
     }
     Ok(())
 }
 
-fn no_rows() -> [u32; ROOM]
-    ensures { 4096 ≡ length result }
-{
-    [0; ROOM]
-}
-
 fn main(rt: HostRuntime) -> io::Result<()> {
     let bytes = fs::read(&rt, "circuits.txt")?;
-    let mut rows = no_rows();
+    let mut rows = [0; ROOM];
     run_cards(&rt, &bytes, &mut rows)
 }

@@ -41,19 +41,15 @@ pub fn is_asked(task: Task, pairs: &[u32]) -> bool
     requires { 2 * VERTICES ≤ length pairs.now }
     ensures { result ≡ true → Asked task pairs.now }
 {
-    if has_limits(task) && has_names(task) {
-        return is_graph(pairs, task.first, task.count);
-    }
-    false
+    has_limits(task) && has_names(task) && is_graph(pairs, task.first, task.count)
 }
 
 fn has_limits(task: Task) -> bool
     ensures { result ≡ true → Limited task }
 {
-    if is_between(task.size, MAX_ROWS) && is_between(task.rows, MAX_ROWS) {
-        return is_between(task.steps, MAX_STEPS);
-    }
-    false
+    is_between(task.size, MAX_ROWS)
+        && is_between(task.rows, MAX_ROWS)
+        && is_between(task.steps, MAX_STEPS)
 }
 
 fn is_between(n: usize, most: usize) -> bool
@@ -66,14 +62,10 @@ fn is_between(n: usize, most: usize) -> bool
 fn has_names(task: Task) -> bool
     ensures { result ≡ true → Named task }
 {
-    if VERTICES < task.count as usize {
-        return false;
-    }
-    if MAX_INPUTS < task.inputs {
-        return false;
-    }
-    if task.first as usize != 1 + task.inputs || task.count < task.first {
-        return false;
-    }
-    task.left < 2 * task.count && task.right < 2 * task.count
+    task.count as usize <= VERTICES
+        && task.inputs <= MAX_INPUTS
+        && task.first as usize == 1 + task.inputs
+        && task.first <= task.count
+        && task.left < 2 * task.count
+        && task.right < 2 * task.count
 }

@@ -17,10 +17,8 @@ pub fn read_words(field: &[u8], words: &mut [u32]) {
 }
 
 fn copy_numbers(field: &[u8], words: &mut [u32], count: usize) {
-    let mut i = 0;
-    while i < count && i < words.len() {
-        words[i] = number_at(field, i);
-        i += 1;
+    for (i, word) in words.iter_mut().take(count).enumerate() {
+        *word = number_at(field, i);
     }
 }
 
@@ -31,11 +29,13 @@ pub fn is_graph(pairs: &[u32], first: u32, count: u32) -> bool
     requires within { first ≤ count }
     ensures { result ≡ true → Downward first count pairs.now }
 {
-    let mut v = 0;
-    while v < count && is_in_place(pairs, first, v) {
-        v += 1;
+    for v in 0..count {
+        if is_in_place(pairs, first, v) {
+            continue;
+        }
+        return false;
     }
-    v == count
+    true
 }
 
 // Whether a first vertex holds its own literal twice, another refers below itself.

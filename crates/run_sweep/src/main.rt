@@ -19,71 +19,63 @@ const WORDS: usize = 2 * VERTICES;
 // Four words a row of the highest row limit.
 const ROWS_ROOM: usize = 4 * asked::MAX_ROWS;
 
+// What a sweep is lent, but for the marks.
+#[derive(Drop)]
+struct Slices {
+    pairs: [u32; WORDS],
+    look: [u32; WORDS],
+    diagrams: [u32; WORDS],
+    stages: [u32; WORDS],
+    rows: [u32; ROWS_ROOM],
+}
+
 fn main(rt: HostRuntime) -> io::Result<()> {
     let bytes = fs::read(&rt, "graphs.txt")?;
     sweep_all(&rt, &bytes)
 }
 
 fn sweep_all(rt: &impl Print, file: &[u8]) -> io::Result<()> {
-    let mut pairs = [0u32; WORDS];
-    let mut look = [0u32; WORDS];
-    let mut diagrams = [0u32; WORDS];
-    let mut stages = [0u32; WORDS];
-    let mut rows = [0u32; ROWS_ROOM];
-    let count = card_count(file);
-    let mut k = 0;
-    while k < count {
-        sweep_card(
-            rt,
-            card(file, k),
-            &mut pairs,
-            &mut look,
-            &mut diagrams,
-            &mut stages,
-            &mut rows,
-        )?;
-        k += 1;
+    let mut slices = Slices {
+        pairs: [0; WORDS],
+        look: [0; WORDS],
+        diagrams: [0; WORDS],
+        stages: [0; WORDS],
+        rows: [0; ROWS_ROOM],
+    };
+    for k in 0..card_count(file) {
+        sweep_card(rt, card(file, k), &mut slices)?;
     }
     Ok(())
 }
 
 // Sweeps the card's graph, or the graph as the card before left it.
-fn sweep_card(
-    rt: &impl Print,
-    card: &[u8],
-    pairs: &mut [u32; WORDS],
-    look: &mut [u32; WORDS],
-    diagrams: &mut [u32; WORDS],
-    stages: &mut [u32; WORDS],
-    rows: &mut [u32; ROWS_ROOM],
-) -> io::Result<()> {
+fn sweep_card(rt: &impl Print, card: &[u8], slices: &mut Slices) -> io::Result<()> {
     let list = number(field(card, 0));
     let task = asked::task_of(card);
-    graph::read_words(field(card, 9), pairs);
-    if asked::is_asked(task, pairs) {
-        show_sweep(rt, list, task, pairs, look, diagrams, stages, rows)
+    graph::read_words(field(card, 9), &mut slices.pairs);
+    if asked::is_asked(task, &slices.pairs) {
+        show_sweep(rt, list, task, slices)
     } else {
         rt.write_all(b"refused\n")
     }
 }
 
-fn show_sweep(
-    rt: &impl Print,
-    list: u32,
-    task: Task,
-    pairs: &mut [u32; WORDS],
-    look: &mut [u32; WORDS],
-    diagrams: &mut [u32; WORDS],
-    stages: &mut [u32; WORDS],
-    rows: &mut [u32; ROWS_ROOM],
-) -> io::Result<()>
-    requires { Asked task pairs.old }
+fn show_sweep(rt: &impl Print, list: u32, task: Task, slices: &mut Slices) -> io::Result<()>
+    requires { Asked task slices.old.pairs }
 {
     let mut marks = no_marks();
-    let ended = sweep::sweep(pairs, look, diagrams, stages, rows, &mut marks, task);
-    show::show_reply(rt, list, ended, rows, task)?;
+    let ended = sweep::sweep(
+        &mut slices.pairs,
+        &mut slices.look,
+        &mut slices.diagrams,
+        &mut slices.stages,
+        &mut slices.rows,
+        &mut marks,
+        task,
+    );
+    show::show_reply(rt, list, ended, &slices.rows, task)?;
     show::show_marks(rt, &marks, task.count as usize)?;
-    show::show_rows(rt, pairs, task.first, task.count)
+    show::show_rows(rt, &slices.pairs, task.first, task.count)
 }
 
 fn no_marks() -> [u8; VERTICES]

@@ -6,6 +6,7 @@ ghost use Rattle.sweep_state.specs.code.Ending.{Refers};
 
 use crate::asked::MAX_INPUTS;
 use bdd::difference::first_difference;
+use netlist_model::Edition;
 use std::io;
 use sweep_graph::words::{first_word, second_word};
 use sweep_model::{Counts, Reply};
@@ -32,8 +33,7 @@ pub fn show_reply(
         steps: ended.steps as u32,
         added: ended.added as u32,
     };
-    let end = ended.end;
-    show_end(rt, list, end, counts, rows, ended.used, task)?;
+    show_end(rt, list, ended, counts, rows, task)?;
     show_number(rt, b"\t", counts.added)
 }
 
@@ -41,23 +41,22 @@ pub fn show_reply(
 fn show_end(
     rt: &impl Print,
     list: u32,
-    end: End,
+    ended: Ended,
     counts: Counts,
     rows: &[u32],
-    used: usize,
     task: Task,
 ) -> io::Result<()>
-    requires store { Store rows.now task.rows used }
-    requires references { Refers rows.now used task.inputs end }
+    requires store { Store rows.now task.rows ended.used }
+    requires references { Refers rows.now ended.used task.inputs ended.end }
     requires narrow { task.inputs ≤ INPUTS }
 {
     let mut setting = zeros();
     let inputs = task.inputs;
-    match end {
+    match ended.end {
         End::Equal => show_line(rt, list, Reply::Equal(counts), b""),
         End::Inverse => show_line(rt, list, Reply::Different(counts), &setting[..inputs]),
         End::Differ(f, g) => {
-            first_difference(rows, used, task.rows, inputs, f, g, &mut setting);
+            first_difference(rows, inputs, f, g, &mut setting);
             show_line(rt, list, Reply::Different(counts), &setting[..inputs])
         }
         End::Undecided(cause) => show_line(rt, list, Reply::Undecided(cause, counts), b""),
@@ -72,7 +71,8 @@ fn zeros() -> [u8; MAX_INPUTS]
 
 fn show_line(rt: &impl Print, list: u32, reply: Reply, setting: &[u8]) -> io::Result<()> {
     let mut line = [0u8; LINE_ROOM];
-    let end = reply_line::write_line(&mut line, netlist_model::BY_PLACE, list, reply, setting);
+    let edition = u32::from(Edition::ByPlace);
+    let end = reply_line::write_line(&mut line, edition, list, Ok(reply), setting);
     if 0 < end {
         rt.write_all(&line[..end - 1])?;
     }
@@ -84,27 +84,19 @@ pub fn show_marks(rt: &impl Print, marks: &[u8], count: usize) -> io::Result<()>
     requires { count ≤ length marks.now }
 {
     rt.write_all(b"\t")?;
-    let mut v = 0;
-    while v < count {
-        show_mark(rt, marks[v])?;
-        v += 1;
+    for mark in marks[..count].iter() {
+        rt.print(*mark)?;
     }
     Ok(())
-}
-
-fn show_mark(rt: &impl Print, mark: u8) -> io::Result<()> {
-    rt.print(mark)
 }
 
 // A tab and the row, for each made vertex, and the end of the line.
 pub fn show_rows(rt: &impl Print, pairs: &[u32], first: u32, count: u32) -> io::Result<()>
     requires { 2 * count ≤ length pairs.now }
 {
-    let mut v = first;
-    while v < count {
+    for v in first..count {
         show_number(rt, b"\t", first_word(pairs, v))?;
         show_number(rt, b",", second_word(pairs, v))?;
-        v += 1;
     }
     rt.write_all(b"\n")
 }

@@ -1,26 +1,35 @@
 // The product of a vertex's operands.
+ghost use Rattle.std.specs.Prelude.{length, ◌≡◌};
 ghost use Rattle.sweep_draw.specs.code.Operands.{ProductAsked, ProductTaken};
+ghost use Rattle.sweep_state.specs.code.Sweep.{put_counts, put_rows};
 
 use aig::literal::Literal;
-use product::Product;
-use sweep_graph::reference::reference_of;
-use sweep_graph::words::{first_word, second_word};
-use sweep_state::task::Task;
+use bdd::store::RowStore;
+use product::{Short, Steps, multiply};
+use sweep_state::sweep::Sweep;
 
-// The product of the functions of v's two operands.
-pub fn take_product(
-    pairs: &[u32],
-    diagrams: &[u32],
-    rows: &mut [u32],
-    task: Task,
-    v: u32,
-    used: usize,
-    steps: usize,
-) -> Product
-    requires { ProductAsked task v used steps pairs.now diagrams.now rows.old }
-    ensures { ProductTaken task v used steps pairs.now diagrams.now rows.old rows.new result }
+// The product of the functions of v's two operands, or why it is short; the rows used and the steps taken are those after it.
+pub fn take_product(s: &mut Sweep<'_>, v: u32) -> Result<usize, Short>
+    requires { ProductAsked s.old v }
+    ensures left { s.new ≡ put_counts s.new.used s.new.steps (put_rows s.new.rows.now s.old) }
+    ensures taken { ProductTaken s.old s.new v result }
+    ensures long { length s.new.rows.now ≡ length s.old.rows.now }
 {
-    let f = reference_of(diagrams, Literal(first_word(pairs, v)));
-    let g = reference_of(diagrams, Literal(second_word(pairs, v)));
-    product::multiply(rows, used, task.rows, f, g, task.inputs, steps, task.steps)
+    let (x, y) = s.pair(v);
+    let f = s.reference(Literal(x));
+    let g = s.reference(Literal(y));
+    let task = s.task;
+    let mut steps = Steps {
+        taken: s.steps,
+        most: task.steps,
+    };
+    let mut store = RowStore {
+        rows: &mut *s.rows,
+        limit: task.rows,
+        used: s.used,
+    };
+    let answer = multiply(&mut store, f, g, task.inputs, &mut steps);
+    s.used = store.used;
+    s.steps = steps.taken;
+    answer
 }

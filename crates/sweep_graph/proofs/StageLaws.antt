@@ -1,11 +1,13 @@
 -- Words of stages, one and many.
 use Prim.Native.Nat.{◌*◌, ◌+◌, ◌<◌, ◌≤◌, suc, zero, ℕ}
 use Rattle.aig.specs.Lookup.{first_word}
-use Rattle.sweep_graph.specs.code.Stages.{stage_word, stages_from, stages_of, with_stage, word_stage}
+use Rattle.sweep_graph.specs.code.Stages.{staged, stage_word, stages_from, stages_of, with_stage, word_stage}
+use Rattle.sweep_graph.specs.declared.stage.Stage as declared
+use Rattle.sweep_graph.specs.declared.stage.Stage.TheVariants as code
 use Rattle.sweep_model.specs.Normalise.{wake}
 use Rattle.sweep_model.specs.State.{Stage, again, bare, bare?, dropped, gone, gone?, has?, open?, opened, stage_of, waiting, waits?}
 use Rattle.truth.proofs.Booleans.{clash}
-use borrow.Author.Tests.{le-leb, lt-leb, ne_eqb}
+use borrow.Author.Tests.{lt-leb, ne_eqb}
 use lib.Dec.{eqb, leb}
 use lib.ListN.{get_or, length, length-set, set}
 use lib.Seq.{ext_get_or, get_or-set_other, get_or-set_same}
@@ -36,7 +38,7 @@ word-cases P b w o a d g (suc (suc (suc zero))) = a
 word-cases P b w o a d g (suc (suc (suc (suc zero)))) = d
 word-cases P b w o a d g (suc (suc (suc (suc (suc x))))) = g (suc (suc (suc (suc (suc x))))) (omega arith)
 
--- The tests of a word.
+-- A word other than bare's has a diagram where it is at most 3.
 pub has_word_lem : (w : ℕ) → (w ≡ 0 → ⊥) → leb w 3 ≡ has? (word_stage w)
 unfolding has?
 has_word_lem w =
@@ -44,13 +46,7 @@ has_word_lem w =
     (λ d. absurd (d refl)) (λ d. refl) (λ d. refl) (λ d. refl) (λ d. refl)
     (λ w h d. lt-leb w 3 (omega arith)) w
 
-pub waits-word : (w : ℕ) → (w ≡ 1 → ⊥) → eqb w 3 ≡ waits? (word_stage w)
-unfolding waits?
-waits-word w =
-    word-cases (λ w s. (w ≡ 1 → ⊥) → eqb w 3 ≡ waits? s)
-    (λ d. refl) (λ d. absurd (d refl)) (λ d. refl) (λ d. refl) (λ d. refl)
-    (λ w h d. ne_eqb w 3 (omega arith)) w
-
+-- A word other than opened's is open where it is 3.
 pub open_word_lem : (w : ℕ) → (w ≡ 2 → ⊥) → eqb w 3 ≡ open? (word_stage w)
 unfolding open?
 open_word_lem w =
@@ -58,16 +54,54 @@ open_word_lem w =
     (λ d. refl) (λ d. refl) (λ d. absurd (d refl)) (λ d. refl) (λ d. refl)
     (λ w h d. ne_eqb w 3 (omega arith)) w
 
-pub bare-word : (w : ℕ) → eqb w 0 ≡ bare? (word_stage w)
-unfolding bare?
-bare-word w = word-cases (λ w s. eqb w 0 ≡ bare? s) refl refl refl refl refl (λ w h. ne_eqb w 0 (omega arith)) w
+-- The tests of the other stages.
+pub has_not : (s : declared.Stage) → (s ≡ code.Waiting → ⊥) → (s ≡ code.Opened → ⊥) → (s ≡ code.Again → ⊥) → false ≡ has? (staged s)
+unfolding has?
+has_not code.Bare a b c = refl
+has_not code.Waiting a b c = absurd (a refl)
+has_not code.Opened a b c = absurd (b refl)
+has_not code.Again a b c = absurd (c refl)
+has_not code.Dropped a b c = refl
+has_not code.Gone a b c = refl
 
-pub gone-word : (w : ℕ) → leb 5 w ≡ gone? (word_stage w)
+pub waits_not : (s : declared.Stage) → (s ≡ code.Waiting → ⊥) → (s ≡ code.Again → ⊥) → false ≡ waits? (staged s)
+unfolding waits?
+waits_not code.Bare a b = refl
+waits_not code.Waiting a b = absurd (a refl)
+waits_not code.Opened a b = refl
+waits_not code.Again a b = absurd (b refl)
+waits_not code.Dropped a b = refl
+waits_not code.Gone a b = refl
+
+pub open_not : (s : declared.Stage) → (s ≡ code.Opened → ⊥) → (s ≡ code.Again → ⊥) → false ≡ open? (staged s)
+unfolding open?
+open_not code.Bare a b = refl
+open_not code.Waiting a b = refl
+open_not code.Opened a b = absurd (a refl)
+open_not code.Again a b = absurd (b refl)
+open_not code.Dropped a b = refl
+open_not code.Gone a b = refl
+
+pub bare_not : (s : declared.Stage) → (s ≡ code.Bare → ⊥) → false ≡ bare? (staged s)
+unfolding bare?
+bare_not code.Bare a = absurd (a refl)
+bare_not code.Waiting a = refl
+bare_not code.Opened a = refl
+bare_not code.Again a = refl
+bare_not code.Dropped a = refl
+bare_not code.Gone a = refl
+
+pub gone_not : (s : declared.Stage) → (s ≡ code.Gone → ⊥) → false ≡ gone? (staged s)
 unfolding gone?
-gone-word w = word-cases (λ w s. leb 5 w ≡ gone? s) refl refl refl refl refl (λ w h. le-leb 5 w h) w
+gone_not code.Bare a = refl
+gone_not code.Waiting a = refl
+gone_not code.Opened a = refl
+gone_not code.Again a = refl
+gone_not code.Dropped a = refl
+gone_not code.Gone a = absurd (a refl)
 
 -- A woken stage: open and waiting again, or waiting.
-pub wake-open : (s : Stage) → open? s ≡ true → 3 ≡ stage_word (wake s)
+pub wake-open : (s : Stage) → open? s ≡ true → again ≡ wake s
 unfolding open? wake
 wake-open bare e = clash e refl
 wake-open waiting e = clash e refl
@@ -76,7 +110,7 @@ wake-open again e = refl
 wake-open dropped e = clash e refl
 wake-open gone e = clash e refl
 
-pub wake_shut : (s : Stage) → open? s ≡ false → 1 ≡ stage_word (wake s)
+pub wake_shut : (s : Stage) → open? s ≡ false → waiting ≡ wake s
 unfolding open? wake
 wake_shut bare e = refl
 wake_shut waiting e = refl

@@ -8,11 +8,11 @@ use Rattle.bdd.proofs.ReferenceLaws.{edge_row}
 use Rattle.bdd.specs.Diagram.{edge}
 use Rattle.bdd.specs.code.Owners.{with_owner}
 use Rattle.sweep_graph.specs.code.Graph.{Graph}
-use Rattle.sweep_graph.specs.code.Stages.{stage_word, with_stage, word_stage}
+use Rattle.sweep_graph.specs.code.Stages.{stage_in, stage_word, with_stage, word_stage}
 use Rattle.sweep_graph.specs.code.Takes.{Handing, Held, TakesRoom, handed_over, has_word, held, leave, take_words, taken_diagrams, takes_words, wake_words}
 use Rattle.sweep_model.proofs.Rows.{row_other}
 use Rattle.sweep_model.specs.Normalise.{merged?, wake}
-use Rattle.sweep_model.specs.State.{gone, gone?, has?}
+use Rattle.sweep_model.specs.State.{Stage, gone, gone?, has?}
 use borrow.Author.Tests.{eq-eqb, ne_eqb}
 use lib.Dec.{eqb}
 use lib.ListN.{length, length-set}
@@ -24,7 +24,7 @@ use native.Mathlib.Numerals.{add-one}
 use native.Mathlib.Omega.{arith}
 
 -- Tests of words as they were read.
-pub has-read : (stages : List ℕ) (v : ℕ) {w s : ℕ} {a b : Bool} → w ≡ v → s ≡ first_word stages w → a ≡ has? (word_stage s) → a ≡ b → has_word stages v ≡ b
+pub has-read : (stages : List ℕ) (v : ℕ) {w : ℕ} {s : Stage} {a b : Bool} → w ≡ v → s ≡ stage_in stages w → a ≡ has? s → a ≡ b → has_word stages v ≡ b
 has-read stages v of-vertex of_word of_test e = rw (← of-vertex, ← of_word) (sym of_test ∙ e)
 
 pub merged-read : (pairs : List ℕ) (v : ℕ) {x y : ℕ} → x ≡ first_word pairs v → y ≡ second_word pairs v → x ≡ y → merged? pairs v ≡ true
@@ -33,56 +33,10 @@ merged-read pairs v ex ey e = eq-eqb (first_word pairs v) (second_word pairs v) 
 pub unmerged-read : (pairs : List ℕ) (v : ℕ) {x y : ℕ} → x ≡ first_word pairs v → y ≡ second_word pairs v → (x ≡ y → ⊥) → merged? pairs v ≡ false
 unmerged-read pairs v ex ey d = ne_eqb (first_word pairs v) (second_word pairs v) (λ e. d (ex ∙ e ∙ sym ey))
 
--- A vertex that is not the constant waits again.
-pub woken-words :
-    (stages : List ℕ) (w : ℕ) {after : List ℕ} {s t : ℕ} → (w ≡ 0 → ⊥) → s ≡ first_word stages w → t ≡ stage_word (wake (word_stage s))
-    → after ≡ with_stage stages w t → after ≡ wake_words w stages
-unfolding wake_words
-woken-words stages w made of_word woken e = rw (ne_eqb w 0 made, ← of_word, ← woken) e
-
--- A diagram is given.
-pub given-words :
-    (stages diagrams : List ℕ) (v x : ℕ) {after : List ℕ} {w c r s : ℕ} → has_word stages (vertex_of x) ≡ false → w ≡ vertex_of x → c ≡ first_word diagrams v
-    → r ≡ edge c x → s ≡ second_word diagrams v → after ≡ with_row diagrams w r s → after ≡ taken_diagrams v x stages diagrams
-unfolding taken_diagrams
-given-words stages diagrams v x lacks of-vertex of-first of-edge of-second e = rw (lacks, ← of-vertex, ← of-first, ← of-edge, ← of-second) e
-
-module _ (v x : ℕ) (h : Held) where
-  -- A vertex with a diagram hands over.
-  pub handed-diagram :
-      {stages diagrams rows : List ℕ} {w r : ℕ} → has_word h.stages v ≡ true → w ≡ vertex_of x → r ≡ first_word h.diagrams v → rows ≡ with_owner h.rows (r / 2) w
-      → diagrams ≡ taken_diagrams v x h.stages h.diagrams → stages ≡ wake_words w h.stages → held stages diagrams rows ≡ handed_over v x h
-  unfolding handed_over
-  handed-diagram has of-vertex of_word e f g = rw (has, ← of-vertex, ← of_word, e, f, g) refl
-
-  -- A vertex without one hands over to a vertex with one.
-  pub handed-turn :
-      {stages : List ℕ} {w : ℕ} → has_word h.stages v ≡ false → has_word h.stages (vertex_of x) ≡ true → w ≡ vertex_of x → stages ≡ wake_words w h.stages
-      → held stages h.diagrams h.rows ≡ handed_over v x h
-  unfolding handed_over
-  handed-turn lacks has of-vertex e = rw (lacks, has, ← of-vertex, e) refl
-
-  -- Where neither has one nothing changes.
-  pub handed_nothing : has_word h.stages v ≡ false → has_word h.stages (vertex_of x) ≡ false → h ≡ handed_over v x h
-  unfolding handed_over
-  handed_nothing lacks too = rw (lacks, too) refl
-
-module _ (pairs : List ℕ) (v : ℕ) (h : Held) where
-  -- A vertex that is not merged, or is gone already, is passed.
-  pub passed-unmerged : merged? pairs v ≡ false → h ≡ take_words pairs v h
-  unfolding take_words
-  passed-unmerged e = rw e refl
-
-  pub passed-gone : merged? pairs v ≡ true → gone? (word_stage (first_word h.stages v)) ≡ true → h ≡ take_words pairs v h
-  unfolding take_words
-  passed-gone e g = rw (e, g) refl
-
-  -- Any other is taken.
-  pub took :
-      {stages diagrams rows after : List ℕ} {x : ℕ} → merged? pairs v ≡ true → gone? (word_stage (first_word h.stages v)) ≡ false → x ≡ first_word pairs v
-      → held stages diagrams rows ≡ handed_over v x h → after ≡ with_stage stages v (stage_word gone) → held after diagrams rows ≡ take_words pairs v h
-  unfolding take_words
-  took e g of_word handed left = rw (e, g, ← of_word, ← handed, left) refl
+-- Where neither vertex has a diagram nothing changes.
+pub handed_nothing : (v x : ℕ) (h : Held) → has_word h.stages v ≡ false → has_word h.stages (vertex_of x) ≡ false → h ≡ handed_over v x h
+unfolding handed_over
+handed_nothing v x h lacks too = rw (lacks, too) refl
 
 -- Waking keeps the number of words.
 length_wake : (w : ℕ) (stages : List ℕ) → length (wake_words w stages) ≡ length stages
@@ -92,6 +46,18 @@ length_wake w stages = go (eqb w 0)
     go : (b : Bool) → length (cond b stages (with_stage stages w (stage_word (wake (word_stage (first_word stages w)))))) ≡ length stages
     go true = refl
     go false = length-set stages (2 * w) (stage_word (wake (word_stage (first_word stages w))))
+
+-- So does handing over.
+pub handed_long : (v x : ℕ) (h : Held) → length (handed_over v x h).stages ≡ length h.stages
+unfolding handed_over
+handed_long v x h = go (has_word h.stages v) (has_word h.stages (vertex_of x))
+  where
+    go : (a b : Bool) → length
+        (cond a (held (wake_words (vertex_of x) h.stages) (taken_diagrams v x h.stages h.diagrams) (with_owner h.rows (first_word h.diagrams v / 2) (vertex_of x)))
+        (cond b (held (wake_words (vertex_of x) h.stages) h.diagrams h.rows) h)).stages ≡ length h.stages
+    go true b = length_wake (vertex_of x) h.stages
+    go false true = length_wake (vertex_of x) h.stages
+    go false false = refl
 
 module _ {count : ℕ} where
   -- TakesRoom for other stages of the same number.
@@ -166,9 +132,6 @@ pub record Taking (pairs : List ℕ) (first count : ℕ) (h₀ h : Held) (v : �
   pub room : TakesRoom count h
   pub from : first ≤ v
   pub to : v ≤ count
-  pub same-stages : length h.stages ≡ length h₀.stages
-  pub same-diagrams : length h.diagrams ≡ length h₀.diagrams
-  pub same_rows : length h.rows ≡ length h₀.rows
 
 -- One vertex more.
 takes_more : (pairs : List ℕ) (v n : ℕ) (h : Held) → takes_words pairs v (suc n) h ≡ takes_words pairs (v + 1) n (take_words pairs v h)
@@ -179,7 +142,7 @@ module _ {pairs : List ℕ} {first count : ℕ} (g : Graph first count pairs) wh
   -- The pass begins with all ahead.
   pub taking_begins : {h : Held} → TakesRoom count h → Taking pairs first count h h first
   taking_begins r =
-      record { ahead = refl; room = r; from = omega arith; to = g.first-within; same-stages = refl; same-diagrams = refl; same_rows = refl }
+      record { ahead = refl; room = r; from = omega arith; to = g.first-within }
 
   module _ {h₀ h : Held} {v : ℕ} (t : Taking pairs first count h₀ h v) where
     lower : v < count → vertex_of (first_word pairs v) < v
@@ -200,18 +163,14 @@ module _ {pairs : List ℕ} {first count : ℕ} (g : Graph first count pairs) wh
 
     -- And the pass goes on to the next.
     pub taking-goes-on :
-        {after : Held} → v < count → after ≡ take_words pairs v h → length after.stages ≡ length h.stages
-        → length after.diagrams ≡ length h.diagrams → length after.rows ≡ length h.rows → Taking pairs first count h₀ after (v + 1)
-    taking-goes-on {after} l e same-stages same-diagrams same_rows =
+        v < count → Taking pairs first count h₀ (take_words pairs v h) (v + 1)
+    taking-goes-on l =
         let more : count - v ≡ suc (count - (v + 1)) = omega arith in
         record {
-          ahead = rw e (sym (takes_more pairs v (count - (v + 1)) h) ∙ ap (λ (n : ℕ). takes_words pairs v n h) (sym more) ∙ t.ahead);
-          room = rw e (take-room pairs v h l (omega (arith, lower l)) t.room);
+          ahead = sym (takes_more pairs v (count - (v + 1)) h) ∙ ap (λ (n : ℕ). takes_words pairs v n h) (sym more) ∙ t.ahead;
+          room = take-room pairs v h l (omega (arith, lower l)) t.room;
           from = omega (arith, t.from);
           to = omega arith;
-          same-stages = same-stages ∙ t.same-stages;
-          same-diagrams = same-diagrams ∙ t.same-diagrams;
-          same_rows = same_rows ∙ t.same_rows;
         }
 
     -- At the end all have handed over.

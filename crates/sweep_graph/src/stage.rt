@@ -1,78 +1,104 @@
-// The stage of a vertex as a word: the first of its two.
+// The stage of a vertex, and its word: the first of its two.
 ghost use Rattle.std.specs.Prelude.{◌*◌, ◌<◌, length, ◌≡◌};
-ghost use Rattle.sweep_graph.specs.code.Stages.{stage_word, with_stage, word_stage};
+ghost use Rattle.sweep_graph.specs.code.Stages.{stage_in, stage_word, staged, with_stage, word_stage};
 ghost use Rattle.sweep_model.specs.Normalise.{wake};
 ghost use Rattle.sweep_model.specs.State.{bare?, gone?, has?, open?, waits?};
 
-// No diagram yet.
-pub const BARE: u32 = 0;
+// No diagram yet; has one and waits; open; open and waiting again; too large; merged.
+#[derive(Clone, Copy, Debug, PartialEq, Eq)]
+pub enum Stage {
+    Bare,
+    Waiting,
+    Opened,
+    Again,
+    Dropped,
+    Gone,
+}
 
-// Has a diagram and waits.
-pub const WAITING: u32 = 1;
+impl Stage {
+    pub fn has_diagram(self) -> bool
+        ensures { result ≡ has? (staged self) }
+    {
+        matches!(self, Stage::Waiting | Stage::Opened | Stage::Again)
+    }
 
-pub const OPENED: u32 = 2;
+    pub fn waits(self) -> bool
+        ensures { result ≡ waits? (staged self) }
+    {
+        matches!(self, Stage::Waiting | Stage::Again)
+    }
 
-// Open and waiting again.
-pub const AGAIN: u32 = 3;
+    pub fn is_open(self) -> bool
+        ensures { result ≡ open? (staged self) }
+    {
+        matches!(self, Stage::Opened | Stage::Again)
+    }
 
-// Too large.
-pub const DROPPED: u32 = 4;
+    pub fn is_bare(self) -> bool
+        ensures { result ≡ bare? (staged self) }
+    {
+        matches!(self, Stage::Bare)
+    }
 
-// Merged.
-pub const GONE: u32 = 5;
+    pub fn is_gone(self) -> bool
+        ensures { result ≡ gone? (staged self) }
+    {
+        matches!(self, Stage::Gone)
+    }
+
+    // The stage of a vertex that takes a diagram and waits again.
+    pub fn woken(self) -> Stage
+        ensures { staged result ≡ wake (staged self) }
+    {
+        if self.is_open() {
+            return Stage::Again;
+        }
+        Stage::Waiting
+    }
+}
+
+impl From<Stage> for u32 {
+    ghost from_gives = { λ stage word. word ≡ stage_word (staged stage) };
+
+    fn from(stage: Stage) -> u32 {
+        match stage {
+            Stage::Bare => 0,
+            Stage::Waiting => 1,
+            Stage::Opened => 2,
+            Stage::Again => 3,
+            Stage::Dropped => 4,
+            Stage::Gone => 5,
+        }
+    }
+}
+
+// There is no stage past the last, which counts as merged.
+impl From<u32> for Stage {
+    ghost from_gives = { λ word stage. staged stage ≡ word_stage word };
+
+    #[tactic(auto, unfolding(crate::specs::code::Stages::word_stage))]
+    fn from(word: u32) -> Stage {
+        match word {
+            0 => Stage::Bare,
+            1 => Stage::Waiting,
+            2 => Stage::Opened,
+            3 => Stage::Again,
+            4 => Stage::Dropped,
+            _ => Stage::Gone,
+        }
+    }
+}
+
+pub fn stage_at(stages: &[u32], v: u32) -> Stage
+    requires { 2 * v < length stages.now }
+    ensures { staged result ≡ stage_in stages.now v }
+{
+    Stage::from(stages[2 * v as usize])
+}
 
 pub fn set_stage(stages: &mut [u32], v: u32, stage: u32)
     requires { 2 * v < length stages.old }
     ensures { stages.new ≡ with_stage stages.old v stage }
 {
     stages[2 * v as usize] = stage;
-}
-
-pub fn has_diagram(stage: u32) -> bool
-    ensures { result ≡ has? (word_stage stage) }
-{
-    if stage == BARE {
-        return false;
-    }
-    stage <= AGAIN
-}
-
-pub fn waits(stage: u32) -> bool
-    ensures { result ≡ waits? (word_stage stage) }
-{
-    if stage == WAITING {
-        return true;
-    }
-    stage == AGAIN
-}
-
-pub fn is_open(stage: u32) -> bool
-    ensures { result ≡ open? (word_stage stage) }
-{
-    if stage == OPENED {
-        return true;
-    }
-    stage == AGAIN
-}
-
-pub fn is_bare(stage: u32) -> bool
-    ensures { result ≡ bare? (word_stage stage) }
-{
-    stage == BARE
-}
-
-pub fn is_gone(stage: u32) -> bool
-    ensures { result ≡ gone? (word_stage stage) }
-{
-    GONE <= stage
-}
-
-// The stage of a vertex that takes a diagram and waits again.
-pub fn woken(stage: u32) -> u32
-    ensures { result ≡ stage_word (wake (word_stage stage)) }
-{
-    if is_open(stage) {
-        return AGAIN;
-    }
-    WAITING
 }

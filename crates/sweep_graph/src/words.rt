@@ -1,4 +1,4 @@
-// The two words of a vertex.
+// The two words of a vertex, in a slice of single words: the caller lends such slices, and no other form of them is held beside.
 ghost use Rattle.std.specs.Prelude.{◌*◌, ◌+◌, ◌<◌, length, ◌≡◌};
 ghost use Rattle.aig.specs.Lookup.{first_word, second_word, with_row};
 

@@ -5,60 +5,54 @@ ghost use Rattle.sweep_graph.specs.code.Takes.{has_word};
 ghost use Rattle.sweep_state.specs.code.Look.{Looks, compared_as, seen_at, seen_by};
 
 use aig::literal::Literal;
-use sweep_graph::reference::reference_of;
-use sweep_graph::resolve::resolve;
-use sweep_graph::stage::has_diagram;
-use sweep_graph::words::first_word;
-use sweep_state::end::{End, Seen};
-use sweep_state::task::Task;
+use sweep_state::end::End;
+use sweep_state::sweep::Sweep;
 
 // Two literals with diagrams: one reference exactly where the functions are equal.
-fn compare(diagrams: &[u32], l: Literal, r: Literal) -> Seen
-    requires { (2 * vertex_of l.0 < length diagrams.now) × (2 * vertex_of r.0 < length diagrams.now) }
-    ensures { result ≡ compared_as diagrams.now l.0 r.0 }
+fn compare(s: &Sweep<'_>, l: Literal, r: Literal) -> End
+    requires { (2 * vertex_of l.0 < length s.now.diagrams.now) × (2 * vertex_of r.0 < length s.now.diagrams.now) }
+    ensures { result ≡ compared_as s.now.diagrams.now l.0 r.0 }
 {
-    let f = reference_of(diagrams, l);
-    let g = reference_of(diagrams, r);
+    let f = s.reference(l);
+    let g = s.reference(r);
     if f == g {
-        Seen::Decided(End::Equal)
+        End::Equal
     } else {
-        Seen::Decided(End::Differ(f, g))
+        End::Differ(f, g)
     }
 }
 
-fn is_drawn(stages: &[u32], r: Literal) -> bool
-    requires { 2 * vertex_of r.0 < length stages.now }
-    ensures { result ≡ has_word stages.now (vertex_of r.0) }
+fn is_drawn(s: &Sweep<'_>, r: Literal) -> bool
+    requires { 2 * vertex_of r.0 < length s.now.stages.now }
+    ensures { result ≡ has_word s.now.stages.now (vertex_of r.0) }
 {
-    has_diagram(first_word(stages, r.vertex()))
+    s.stage(r.vertex()).has_diagram()
 }
 
 // Two literals as they are now.
-fn look_at(diagrams: &[u32], stages: &[u32], l: Literal, r: Literal) -> Seen
-    requires first { (2 * vertex_of l.0 < length diagrams.now) × (2 * vertex_of l.0 < length stages.now) }
-    requires second { (2 * vertex_of r.0 < length diagrams.now) × (2 * vertex_of r.0 < length stages.now) }
-    ensures { result ≡ seen_at diagrams.now stages.now l.0 r.0 }
+fn look_at(s: &Sweep<'_>, l: Literal, r: Literal) -> Option<End>
+    requires first { (2 * vertex_of l.0 < length s.now.diagrams.now) × (2 * vertex_of l.0 < length s.now.stages.now) }
+    requires second { (2 * vertex_of r.0 < length s.now.diagrams.now) × (2 * vertex_of r.0 < length s.now.stages.now) }
+    ensures { result ≡ seen_at s.now.diagrams.now s.now.stages.now l.0 r.0 }
 {
-    if l.0 == r.0 {
-        return Seen::Decided(End::Equal);
+    if l == r {
+        return Some(End::Equal);
     }
-    if l.0 == r.negated().0 {
-        return Seen::Decided(End::Inverse);
+    if l == r.negated() {
+        return Some(End::Inverse);
     }
-    if is_drawn(stages, l) {
-        if is_drawn(stages, r) {
-            return compare(diagrams, l, r);
-        }
+    if is_drawn(s, l) && is_drawn(s, r) {
+        return Some(compare(s, l, r));
     }
-    Seen::Nothing
+    None
 }
 
-// The two literals of a task.
-pub fn look(pairs: &[u32], diagrams: &[u32], stages: &[u32], task: Task) -> Seen
-    requires { Looks task pairs.now diagrams.now stages.now }
-    ensures { result ≡ seen_by task pairs.now diagrams.now stages.now }
+// How the sweep ends by its two literals, unless they decide nothing yet.
+pub fn look(s: &Sweep<'_>) -> Option<End>
+    requires { Looks s.now.task s.now.pairs.now s.now.diagrams.now s.now.stages.now }
+    ensures { result ≡ seen_by s.now.task s.now.pairs.now s.now.diagrams.now s.now.stages.now }
 {
-    let l = resolve(pairs, Literal(task.left));
-    let r = resolve(pairs, Literal(task.right));
-    look_at(diagrams, stages, l, r)
+    let l = s.resolve(Literal(s.task.left));
+    let r = s.resolve(Literal(s.task.right));
+    look_at(s, l, r)
 }

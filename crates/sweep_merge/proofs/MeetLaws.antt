@@ -1,9 +1,10 @@
 -- A twin, and two vertices merged: one law for each answer.
-use Prim.Native.Nat.{◌*◌, ◌+◌, ◌-◌, ◌/◌, ◌<◌, ◌≤◌, max, min, ℕ}
+use Rattle.std.specs.Prelude.{None, Some}
+use Prim.Native.Nat.{◌*◌, ◌+◌, ◌-◌, ◌/◌, ◌≤◌, max, min, ℕ}
 use Rattle.aig.proofs.IndexLaws.{row-holds}
 use Rattle.aig.proofs.LiteralLaws.{literal-below}
 use Rattle.aig.specs.Literal.{lit, literal_of}
-use Rattle.aig.specs.Lookup.{first_word, with_row}
+use Rattle.aig.specs.Lookup.{with_row}
 use Rattle.aig.specs.declared.literal.Literal.{Literal}
 use Rattle.bdd.proofs.RowsLaws.{length_put}
 use Rattle.bdd.specs.code.Owners.{with_owner}
@@ -16,17 +17,16 @@ use Rattle.sweep_model.specs.Normalise.{normalise_from}
 use Rattle.sweep_state.specs.code.Meet.{MeetAsked, MergeAsked, Workspace, handed_in, held_of, inverse?, joined, merged_pairs, merged_workspace, met_with, met_workspace, twin_at, with_held, workspace}
 use Rattle.sweep_state.specs.code.Arrays.{Arrays, arrays, drawn_at}
 use Rattle.sweep_state.specs.declared.task.Task.{Task}
-use Rattle.sweep_state.specs.declared.twin.Twin.TheVariants.{At, None}
 use borrow.Author.Tests.{eq-eqb, ne_eqb}
 use lib.ListN.{length-set}
-use mathlib.Core.Bool.{Bool, false, true}
+use mathlib.Core.Bool.{Bool}
 use mathlib.Core.List.{List}
 use mathlib.Core.Path.{◌∙◌, ◌≡◌, ap, ap₂, refl, sym}
 use native.Mathlib.Decide.{ℕ_discrete}
 use native.Mathlib.Omega.{arith}
 
 module _ (rows : List ℕ) (reference : ℕ) where
-  pub twin-constant : reference / 2 ≡ 0 → At 0 ≡ twin_at rows reference
+  pub twin-constant : reference / 2 ≡ 0 → Some 0 ≡ twin_at rows reference
   unfolding twin_at
   twin-constant e = rw (eq-eqb (reference / 2) 0 e) refl
 
@@ -35,33 +35,18 @@ module _ (rows : List ℕ) (reference : ℕ) where
     unfolding twin_at
     twin_nobody e = rw (ne_eqb (reference / 2) 0 d, ← eo, eq-eqb o 0 e) refl
 
-    pub twin-owner : (o ≡ 0 → ⊥) → At o ≡ twin_at rows reference
+    pub twin-owner : (o ≡ 0 → ⊥) → Some o ≡ twin_at rows reference
     unfolding twin_at
     twin-owner n = rw (ne_eqb (reference / 2) 0 d, ← eo, ne_eqb o 0 n) refl
 
-module _ (diagrams : List ℕ) (v w : ℕ) {a b : ℕ} (ea : a ≡ first_word diagrams v) (eb : b ≡ first_word diagrams w) where
-  pub inverse-same : a ≡ b → false ≡ inverse? diagrams v w
-  unfolding inverse?
-  inverse-same e = rw (← ea, ← eb, eq-eqb a b e) refl
-
-  pub inverse-other : (a ≡ b → ⊥) → true ≡ inverse? diagrams v w
-  unfolding inverse?
-  inverse-other d = rw (← ea, ← eb, ne_eqb a b d) refl
-
-module _ (pairs : List ℕ) (v w : ℕ) (inverted : Bool) {after : List ℕ} {x : Literal} where
-  pub joined-up : v < w → x ≡ lit (literal_of v inverted) → after ≡ with_row pairs w x.0 x.0 → after ≡ joined pairs v w inverted
-  unfolding joined
-  joined-up h ex e =
-      let hi : max v w ≡ w = omega arith in
-      let lo : min v w ≡ v = omega arith in
-      rw (hi, lo) (e ∙ ap (λ (y : Literal). with_row pairs w y.0 y.0) ex)
-
-  pub joined_down : w ≤ v → x ≡ lit (literal_of w inverted) → after ≡ with_row pairs v x.0 x.0 → after ≡ joined pairs v w inverted
-  unfolding joined
-  joined_down h ex e =
-      let hi : max v w ≡ v = omega arith in
-      let lo : min v w ≡ w = omega arith in
-      rw (hi, lo) (e ∙ ap (λ (y : Literal). with_row pairs v y.0 y.0) ex)
+-- A vertex merged into a lower one, or into itself.
+pub joined_down : (pairs : List ℕ) (v w : ℕ) (inverted : Bool) {after : List ℕ} {x : Literal} → w ≤ v → x ≡ lit (literal_of w inverted)
+    → after ≡ with_row pairs v x.0 x.0 → after ≡ joined pairs v w inverted
+unfolding joined
+joined_down pairs v w inverted h ex e =
+    let hi : max v w ≡ v = omega arith in
+    let lo : min v w ≡ w = omega arith in
+    rw (hi, lo) (e ∙ ap (λ (y : Literal). with_row pairs v y.0 y.0) ex)
 
 module _ {t : Task} {v w : ℕ} {pairs look : List ℕ} {h : Held} (q : MergeAsked t v w pairs look h) where
   -- The graph after the row is written.
@@ -81,12 +66,6 @@ module _ {t : Task} {v w : ℕ} {pairs look : List ℕ} {h : Held} (q : MergeAsk
     pub merge-kept : Graph t.first t.count last
     merge-kept = rw f (graph-kept (merge-graph b e))
 
-    pub merge-pairs : last ≡ merged_pairs t v w pairs h.diagrams
-    merge-pairs = f ∙ ap (λ (l : List ℕ). normalise_from l t.first (t.count - t.first)) (e ∙ ap (joined pairs v w) eb)
-
-    pub merge-held : {k : Held} → k ≡ handed_in t last h → k ≡ handed_in t (merged_pairs t v w pairs h.diagrams) h
-    merge-held g = g ∙ ap (λ (l : List ℕ). handed_in t l h) merge-pairs
-
 module _ {t : Task} {v reference size : ℕ} {look : List ℕ} {b : Workspace} (q : MeetAsked t v reference size look b) where
   -- There is still room once v has its diagram.
   pub drawn-room : TakesRoom t.count (held_of (drawn_at v reference size b.arrays))
@@ -104,7 +83,7 @@ module _ {t : Task} {v reference size : ℕ} {look : List ℕ} {b : Workspace} (
         few = q.room.few;
       }
 
-  module _ {a : Arrays} (e : a ≡ drawn_at v reference size b.arrays) (w : ℕ) (o : twin_at b.arrays.rows reference ≡ At w) where
+  module _ {a : Arrays} (e : a ≡ drawn_at v reference size b.arrays) (w : ℕ) (o : twin_at b.arrays.rows reference ≡ Some w) where
     pub meet-asks : MergeAsked t v w b.pairs look (held_of a)
     meet-asks =
         record {

@@ -1,56 +1,40 @@
 // Two vertices of equal or inverse functions merge.
-ghost use Rattle.std.specs.Prelude.{◌*◌, ◌+◌, ◌<◌, ◌^◌, max, length, ◌≡◌};
-ghost use Rattle.sweep_graph.specs.code.Takes.{held, helds};
-ghost use Rattle.sweep_state.specs.code.Meet.{MergeAsked, handed_in, inverse?, joined, merged_pairs};
+ghost use Rattle.std.specs.Prelude.{◌*◌, ◌+◌, ◌<◌, ◌^◌, length, max, ◌≡◌};
+ghost use Rattle.sweep_state.specs.code.Meet.{MergeAsked, inverse?, joined, merged_workspace};
+ghost use Rattle.sweep_state.specs.code.Sweep.{handed, lent, put_lent, put_look, put_pairs};
 
 use aig::literal::Literal;
-use sweep_graph::words::{first_word, set_words};
+use sweep_graph::words::first_word;
 use sweep_normalise::normalise::normalise;
-use sweep_state::task::Task;
+use sweep_state::sweep::Sweep;
 use sweep_take::take::takes;
 
 // Whether the diagrams of two vertices, on one row, are inverse.
-fn are_inverse(diagrams: &[u32], v: u32, w: u32) -> bool
-    requires { (2 * v < length diagrams.now) × (2 * w < length diagrams.now) }
-    ensures { result ≡ inverse? diagrams.now v w }
+fn are_inverse(s: &Sweep<'_>, v: u32, w: u32) -> bool
+    requires { (2 * v < length s.now.diagrams.now) × (2 * w < length s.now.diagrams.now) }
+    ensures { result ≡ inverse? s.now.diagrams.now v w }
 {
-    if first_word(diagrams, v) == first_word(diagrams, w) {
-        return false;
-    }
-    true
+    first_word(&s.diagrams[..], v) != first_word(&s.diagrams[..], w)
 }
 
 // The higher of two vertices gets the row of one merged into the lower.
-fn join(pairs: &mut [u32], v: u32, w: u32, inverted: bool)
-    requires { (2 * max v w + 1 < length pairs.old) × (max v w < 2 ^ 31) }
-    ensures { pairs.new ≡ joined pairs.old v w inverted }
+#[tactic(auto, unfolding(sweep_state::specs::code::Meet::joined))]
+fn join(s: &mut Sweep<'_>, v: u32, w: u32, inverted: bool)
+    requires { (2 * max v w + 1 < length s.old.pairs.now) × (max v w < 2 ^ 31) }
+    ensures { s.new ≡ put_pairs (joined s.old.pairs.now v w inverted) s.old }
 {
-    if v < w {
-        let x = Literal::new(v, inverted).0;
-        set_words(pairs, w, x, x);
-        return;
-    }
-    let x = Literal::new(w, inverted).0;
-    set_words(pairs, v, x, x);
+    let x = Literal::new(v.min(w), inverted).0;
+    s.set_pair(v.max(w), x, x);
 }
 
 // The higher of two vertices is merged into the lower, and normalising and handing over follow.
-pub fn merge(
-    pairs: &mut [u32],
-    look: &mut [u32],
-    diagrams: &mut [u32],
-    stages: &mut [u32],
-    rows: &mut [u32],
-    task: Task,
-    v: u32,
-    w: u32,
-)
-    requires { MergeAsked task v w pairs.old look.old (held stages.old diagrams.old rows.old) }
-    ensures pairs_after { pairs.new ≡ merged_pairs task v w pairs.old diagrams.old }
-    ensures rows_value { (helds stages diagrams rows).exit ≡ handed_in task (merged_pairs task v w pairs.old diagrams.old) (helds stages diagrams rows).entry }
+pub fn merge(s: &mut Sweep<'_>, v: u32, w: u32)
+    requires { MergeAsked s.old.task v w s.old.pairs.now s.old.look.now (handed s.old) }
+    ensures left { s.new ≡ put_look s.new.look.now (put_lent (merged_workspace s.old.task v w (lent s.old)) s.old) }
+    ensures long { length s.new.look.now ≡ length s.old.look.now }
 {
-    let inverted = are_inverse(&diagrams[..], v, w);
-    join(pairs, v, w, inverted);
-    normalise(pairs, look, task.first, task.count);
-    takes(&pairs[..], stages, diagrams, rows, task.first, task.count);
+    let inverted = are_inverse(s, v, w);
+    join(s, v, w, inverted);
+    normalise(s);
+    takes(s);
 }

@@ -8,8 +8,7 @@ use Rattle.aig.specs.Lookup.{First, first_vertex, first_word, second_word}
 use Rattle.aig.specs.declared.fold.Folded.TheVariants.{Pair, To}
 use Rattle.aig.specs.declared.fold.Folded.{Folded}
 use Rattle.aig.specs.declared.literal.Literal.{Literal}
-use Rattle.aig.specs.declared.lookup.Found.TheVariants.{At, Nothing}
-use Rattle.aig.specs.declared.lookup.Found.{Found}
+use Rattle.std.specs.Prelude.{None, Option, Some}
 use Rattle.sweep_model.proofs.Functions.{all-perfect, own_function, truth-tables}
 use Rattle.sweep_model.proofs.Rows.{merge-sound, resolve_function, resolve-within, row-sound}
 use Rattle.sweep_model.specs.Fit.{Sound, WellFormed, vertex_count}
@@ -47,8 +46,8 @@ module _ (p : Problem) (w : WellFormed p) where
           (resolve_function p w s (first_word rows v) (omega (arith, s.downward.first_below v made within)))
           (resolve_function p w s (second_word rows v) (omega (arith, s.downward.second_below v made within))))
 
-      found : {x y : Literal} → fold_of a b ≡ Pair x y → (f : Found) → first_vertex rows x.0 y.0 v ≡ f → Sound p (found_row rows v x.0 y.0 f)
-      found {x} {y} e (At u) h = merge-sound p w s v (2 * u) made within (omega (arith, here.within)) (own_function p u ∙ same ∙ sym means)
+      found : {x y : Literal} → fold_of a b ≡ Pair x y → (f : Option ℕ) → first_vertex rows x.0 y.0 v ≡ f → Sound p (found_row rows v x.0 y.0 f)
+      found {x} {y} e (Some u) h = merge-sound p w s v (2 * u) made within (omega (arith, here.within)) (own_function p u ∙ same ∙ sym means)
         where
           here : First rows x.0 y.0 v u
           here = found_at rows x.0 y.0 v u h
@@ -66,7 +65,7 @@ module _ (p : Problem) (w : WellFormed p) where
               s.means u is_made (omega (arith, here.within))
               ∙ ap₂ (λ (x y : ℕ). conj (literal_function p x) (literal_function p y)) here.holds.first here.holds.second
               ∙ pair-means (truth-tables p.inputs) p.functions (all-perfect p w) w.constant a b e
-      found {x} {y} e Nothing h =
+      found {x} {y} e None h =
           let low = pair-below a b (2 * v) e low_first low_second in
           row-sound p w s v x.0 y.0 made within low.0 low.1
           (means ∙ sym (pair-means (truth-tables p.inputs) p.functions (all-perfect p w) w.constant a b e))

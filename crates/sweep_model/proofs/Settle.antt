@@ -11,8 +11,7 @@ use Rattle.aig.specs.Pairs.{SamePair, crossed, straight}
 use Rattle.aig.specs.declared.fold.Folded.TheVariants.{Pair, To}
 use Rattle.aig.specs.declared.fold.Folded.{Folded}
 use Rattle.aig.specs.declared.literal.Literal.{Literal}
-use Rattle.aig.specs.declared.lookup.Found.TheVariants.{At, Nothing}
-use Rattle.aig.specs.declared.lookup.Found.{Found}
+use Rattle.std.specs.Prelude.{None, Option, Some}
 use Rattle.sweep_model.proofs.Rows.{resolve-agree, resolve-within, row-downward, row_here, row_other}
 use Rattle.sweep_model.proofs.Tidy.{equal-merged, first-unmerged, merged-agree, resolve-kept, resolve-unmerged, tidy-agree, tidy-less, unequal_stays, unequal-unmerged}
 use Rattle.sweep_model.specs.Fit.{Downward}
@@ -79,8 +78,8 @@ module _ {first count : ℕ} (some : 1 ≤ first) {rows : List ℕ} (d : Downwar
       apart : {x y : Literal} → fold_of a b ≡ Pair x y → a ≢ b
       apart e s = let z : ◌≡◌ {A = ℕ} 0 1 = cc (fold_same a b s) in omega arith
 
-      found : {x y : Literal} → fold_of a b ≡ Pair x y → (f : Found) → first_vertex rows x.0 y.0 v ≡ f → Settles first rows (found_row rows v x.0 y.0 f) v
-      found {x} {y} e (At u) h =
+      found : {x y : Literal} → fold_of a b ≡ Pair x y → (f : Option ℕ) → first_vertex rows x.0 y.0 v ≡ f → Settles first rows (found_row rows v x.0 y.0 f) v
+      found {x} {y} e (Some u) h =
           record {
             x = 2 * u;
             y = 2 * u;
@@ -101,7 +100,7 @@ module _ {first count : ℕ} (some : 1 ≤ first) {rows : List ℕ} (d : Downwar
               rw k
               (unequal_stays first rows u
               (unequal-unmerged rows u (λ s. omega (arith, (pair-unfolded a b e).ordered, here.holds.first, here.holds.second))))
-      found {x} {y} e Nothing h =
+      found {x} {y} e None h =
           let low = pair-below a b (2 * v) e low_first low_second in
           let stay = pair-each (λ (r : ℕ). was_merged? first rows (vertex_of r) ≡ false) (pair_operands a b e) stays_first stays_second in
           record {

@@ -1,12 +1,10 @@
 -- Step 1: normalising, and what a merged vertex hands over. (RULES 6.1, 6.4)
-use Rattle.std.specs.Prelude.{◌*◌, ◌-◌, suc, zero, ℕ, eqb, leb, length, set, Bool, ◌&&◌, ◌||◌, cond, not, List}
+use Rattle.std.specs.Prelude.{◌*◌, ◌-◌, suc, zero, ℕ, eqb, leb, length, set, Bool, ◌&&◌, ◌||◌, cond, not, None, Option, Some, List}
 use Rattle.aig.specs.Fold.{fold_of}
 use Rattle.aig.specs.Literal.{onto, vertex_of}
 use Rattle.aig.specs.Lookup.{first_vertex, first_word, second_word, with_row}
 use Rattle.aig.specs.declared.fold.Folded.TheVariants.{Pair, To}
 use Rattle.aig.specs.declared.fold.Folded.{Folded}
-use Rattle.aig.specs.declared.lookup.Found.TheVariants.{At, Nothing}
-use Rattle.aig.specs.declared.lookup.Found.{Found}
 use Rattle.sweep_model.specs.State.{Stage, State, again, bare, dropped, gone, gone?, has?, opened, stage_of, waiting}
 
 -- "A vertex merged into reference r has the row (r, r)." (RULES 6.1)
@@ -27,9 +25,9 @@ abbrev pub merged_into : List ℕ → ℕ → ℕ → List ℕ
 merged_into rows v r = with_row rows v r r
 
 -- "found again": the row of the first vertex that has the pair, or the pair. (RULES 6.1)
-unfoldable pub found_row : List ℕ → ℕ → ℕ → ℕ → Found → List ℕ
-found_row rows v p q (At u) = merged_into rows v (2 * u)
-found_row rows v p q Nothing = with_row rows v p q
+unfoldable pub found_row : List ℕ → ℕ → ℕ → ℕ → Option ℕ → List ℕ
+found_row rows v p q (Some u) = merged_into rows v (2 * u)
+found_row rows v p q None = with_row rows v p q
 
 -- "each row is folded or found again, and what folds or is found counts as merged. .. The lower-numbered vertex always stays." (RULES 6.1)
 unfoldable pub folded_row : List ℕ → ℕ → Folded → List ℕ

@@ -2,7 +2,7 @@
 #![tactic(auto)]
 
 // Why a comparison is undecided; Rows and Steps name the vertex at which the limit was passed.
-#[derive(Clone, Copy)]
+#[derive(Clone, Copy, Debug, PartialEq, Eq)]
 pub enum Cause {
     Size,
     Rows(u32),
@@ -10,17 +10,17 @@ pub enum Cause {
 }
 
 // The rows in use, the product steps taken, and the rows that a product which broke off had added: those were given back.
-#[derive(Clone, Copy)]
+#[derive(Clone, Copy, Debug, PartialEq, Eq)]
 pub struct Counts {
     pub rows: u32,
     pub steps: u32,
     pub added: u32,
 }
 
-#[derive(Clone, Copy)]
+// What a comparison that is not refused says.
+#[derive(Clone, Copy, Debug, PartialEq, Eq)]
 pub enum Reply {
     Equal(Counts),
     Different(Counts),
     Undecided(Cause, Counts),
-    Refused(u32),
 }

@@ -8,7 +8,7 @@ use Rattle.aig.specs.Lookup.{Indexed, cleared, entered, first_vertex, first_word
 use Rattle.aig.specs.declared.fold.Folded.TheVariants.{Pair}
 use Rattle.aig.specs.declared.fold.Folded.{Folded}
 use Rattle.aig.specs.declared.literal.Literal.{Literal}
-use Rattle.aig.specs.declared.lookup.Found.TheVariants.{At, Nothing}
+use Rattle.std.specs.Prelude.{None, Some}
 use Rattle.sweep_graph.specs.code.Graph.{Graph, Turn}
 use Rattle.sweep_model.proofs.Settle.{normalised, tidy-first}
 use Rattle.sweep_model.specs.Fit.{Downward}
@@ -16,7 +16,7 @@ use Rattle.sweep_model.specs.Normalise.{folded_row, found_row, normalise_from, n
 use lib.ListN.{length}
 use mathlib.Core.Bool.{false}
 use mathlib.Core.List.{List}
-use mathlib.Core.Path.{◌∙◌, ◌≡◌, ap, ap₂, refl, sym}
+use mathlib.Core.Path.{◌∙◌, ◌≡◌, ap, ap₂, sym}
 use native.Mathlib.Omega.{arith}
 
 -- The number of a literal.
@@ -30,7 +30,7 @@ module _ {pairs look after : List ℕ} {v places : ℕ} (t : Turn pairs v look p
 
   -- A pair that a lower vertex has.
   pub found_turn :
-      {r : Literal} (p q u : ℕ) → first_vertex pairs p q v ≡ At u → r ≡ lit (literal_of u false) → after ≡ with_row pairs v r.0 r.0
+      {r : Literal} (p q u : ℕ) → first_vertex pairs p q v ≡ Some u → r ≡ lit (literal_of u false) → after ≡ with_row pairs v r.0 r.0
       → (after ≡ found_row pairs v p q (first_vertex pairs p q v)) × Indexed after (v + 1) look places
   unfolding found_row
   found_turn {r} p q u found e written =
@@ -39,7 +39,7 @@ module _ {pairs look after : List ℕ} {v places : ℕ} (t : Turn pairs v look p
 
   -- A pair that no lower vertex has.
   pub entered-turn :
-      {then : List ℕ} (p q : ℕ) → (p ≡ q → ⊥) → first_vertex pairs p q v ≡ Nothing → after ≡ with_row pairs v p q → then ≡ entered look places v p q
+      {then : List ℕ} (p q : ℕ) → (p ≡ q → ⊥) → first_vertex pairs p q v ≡ None → after ≡ with_row pairs v p q → then ≡ entered look places v p q
       → (after ≡ found_row pairs v p q (first_vertex pairs p q v)) × Indexed after (v + 1) then places
   unfolding found_row
   entered-turn p q apart found written e =
@@ -58,13 +58,11 @@ pub pair-apart : (a b : ℕ) {f : Folded} {p q : Literal} → f ≡ fold_of a b 
 pair-apart a b e left same = omega (arith, (pair-unfolded a b (sym e ∙ left)).ordered)
 
 -- The rows below vertex v are normalised, and the look-up holds them.
-pub record Pass (first count : ℕ) (pairs₀ look₀ pairs look : List ℕ) (v : ℕ) : Type 0 where
+pub record Pass (first count : ℕ) (pairs₀ pairs look : List ℕ) (v : ℕ) : Type 0 where
   pub done : pairs ≡ normalise_from pairs₀ first (v - first)
   pub indexed : Indexed pairs v look count
   pub from : first ≤ v
   pub to : v ≤ count
-  pub same-pairs : length pairs ≡ length pairs₀
-  pub same-look : length look ≡ length look₀
 
 -- One row more, at the end.
 normalise-last : (rows : List ℕ) (v n : ℕ) → normalise_from rows v (suc n) ≡ normalise_row (normalise_from rows v n) (v + n)
@@ -76,7 +74,7 @@ normalise-last rows v (suc n) =
 module _ {first count : ℕ} {pairs₀ : List ℕ} (g : Graph first count pairs₀) where
   -- The pass begins with an empty look-up.
   pub pass-begins :
-      (look₀ : List ℕ) {look : List ℕ} → 2 * count ≤ length look₀ → look ≡ cleared look₀ count → Pass first count pairs₀ look pairs₀ look first
+      (look₀ : List ℕ) {look : List ℕ} → 2 * count ≤ length look₀ → look ≡ cleared look₀ count → Pass first count pairs₀ pairs₀ look first
   unfolding normalise_from
   pass-begins look₀ room e =
       let none : first - first ≡ 0 = omega arith in
@@ -89,11 +87,9 @@ module _ {first count : ℕ} {pairs₀ : List ℕ} (g : Graph first count pairs�
             (λ v h. (g.downward.own v h).first ∙ sym (g.downward.own v h).second));
         from = omega arith;
         to = g.first-within;
-        same-pairs = refl;
-        same-look = refl;
       }
 
-  module _ {look₀ pairs look : List ℕ} {v : ℕ} (s : Pass first count pairs₀ look₀ pairs look v) where
+  module _ {pairs look : List ℕ} {v : ℕ} (s : Pass first count pairs₀ pairs look v) where
     -- Each vertex has its turn.
     pub pass_turns : v < count → Turn pairs v look count
     pass_turns h =
@@ -114,18 +110,16 @@ module _ {first count : ℕ} {pairs₀ : List ℕ} (g : Graph first count pairs�
 
     -- And the pass goes on to the next.
     pub pass-goes-on :
-        {pairs' look' : List ℕ} → v < count → pairs' ≡ normalise_row pairs v → Indexed pairs' (v + 1) look' count → length pairs' ≡ length pairs
-        → length look' ≡ length look → Pass first count pairs₀ look₀ pairs' look' (v + 1)
-    pass-goes-on {pairs'} {look'} h written indexed same-pairs same-look =
+        {look' : List ℕ} → v < count → Indexed (normalise_row pairs v) (v + 1) look' count
+        → Pass first count pairs₀ (normalise_row pairs v) look' (v + 1)
+    pass-goes-on h indexed =
         let at : first + (v - first) ≡ v = omega (arith, s.from) in
         let more : v + 1 - first ≡ suc (v - first) = omega (arith, s.from) in
         record {
-          done = rw (more, normalise-last pairs₀ first (v - first), at) (written ∙ ap (λ (l : List ℕ). normalise_row l v) s.done);
+          done = rw (more, normalise-last pairs₀ first (v - first), at) (ap (λ (l : List ℕ). normalise_row l v) s.done);
           indexed = indexed;
           from = omega (arith, s.from);
           to = omega arith;
-          same-pairs = same-pairs ∙ s.same-pairs;
-          same-look = same-look ∙ s.same-look;
         }
 
     -- At the end all rows are normalised.

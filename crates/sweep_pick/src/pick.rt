@@ -2,52 +2,37 @@
 ghost use Rattle.std.specs.Prelude.{◌*◌, ◌+◌, ◌<◌, ◌≤◌, length, ◌≡◌};
 ghost use Rattle.sweep_pick.specs.code.Pick.{Within, least_from, lesser, pick_here};
 
-use sweep_graph::stage::waits;
-use sweep_graph::words::{first_word, second_word};
-
-#[derive(Clone, Copy)]
-pub enum Picked {
-    At(u32),
-    None,
-}
+use sweep_state::sweep::Sweep;
 
 // Vertex v, or the one picked of the later vertices where its diagram is smaller.
-fn lesser(diagrams: &[u32], v: u32, later: Picked) -> u32
-    requires { (2 * v + 1 < length diagrams.now) × Within diagrams.now later }
-    ensures { result ≡ lesser diagrams.now v later }
+fn lesser(s: &Sweep<'_>, v: u32, later: Option<u32>) -> u32
+    requires { (2 * v + 1 < length s.now.diagrams.now) × Within s.now.diagrams.now later }
+    ensures { result ≡ lesser s.now.diagrams.now v later }
 {
     match later {
-        Picked::None => v,
-        Picked::At(w) => {
-            if second_word(diagrams, v) <= second_word(diagrams, w) {
-                v
-            } else {
-                w
-            }
-        }
+        None => v,
+        Some(w) => { if s.size(v) <= s.size(w) { v } else { w } }
     }
 }
 
-fn pick_here(stages: &[u32], diagrams: &[u32], v: u32, later: Picked) -> Picked
-    requires { (2 * v < length stages.now) × ((2 * v + 1 < length diagrams.now) × Within diagrams.now later) }
-    ensures { result ≡ pick_here stages.now diagrams.now v later }
+fn pick_here(s: &Sweep<'_>, v: u32, later: Option<u32>) -> Option<u32>
+    requires { (2 * v < length s.now.stages.now) × ((2 * v + 1 < length s.now.diagrams.now) × Within s.now.diagrams.now later) }
+    ensures { result ≡ pick_here s.now.stages.now s.now.diagrams.now v later }
 {
-    if waits(first_word(stages, v)) {
-        return Picked::At(lesser(diagrams, v, later));
+    if s.stage(v).waits() {
+        return Some(lesser(s, v, later));
     }
     later
 }
 
 // The waiting vertex of least size, the lowest on a tie, in one pass downwards.
-pub fn pick(stages: &[u32], diagrams: &[u32], count: u32) -> Picked
-    requires { (2 * count ≤ length stages.now) × (2 * count ≤ length diagrams.now) }
-    ensures { result ≡ least_from stages.now diagrams.now 0 count }
+pub fn pick(s: &Sweep<'_>) -> Option<u32>
+    requires { (2 * s.now.task.count ≤ length s.now.stages.now) × (2 * s.now.task.count ≤ length s.now.diagrams.now) }
+    ensures { result ≡ least_from s.now.stages.now s.now.diagrams.now 0 s.now.task.count }
 {
-    let mut picked = Picked::None;
-    let mut v = count;
-    while 0 < v {
-        v -= 1;
-        picked = pick_here(stages, diagrams, v, picked);
+    let mut picked = None;
+    for v in (0..s.task.count).rev() {
+        picked = pick_here(s, v, picked);
     }
     picked
 }

@@ -1,5 +1,6 @@
 -- The start of a sweep after the first normalising: the looks and the inputs' rows, as in the model.
 use Prim.Native.Nat.{◌-◌, ℕ}
+use Rattle.std.specs.Prelude.{Err, None, Ok, Option, Result, Some}
 use Rattle.aig.specs.Literal.{negate}
 use Rattle.sweep_model.proofs.Steady.{giving-scanning}
 use Rattle.sweep_model.specs.State.{Problem, State, literal_function}
@@ -16,17 +17,12 @@ use Rattle.sweep_state.specs.code.Arrays.{Arrays}
 use Rattle.sweep_state.specs.code.Words.{posed}
 use Rattle.sweep_state.specs.declared.end.End.TheVariants.{Undecided}
 use Rattle.sweep_state.specs.declared.end.End.{End}
-use Rattle.sweep_state.specs.declared.end.Seen.TheVariants.{Decided, Nothing}
-use Rattle.sweep_state.specs.declared.end.Seen.{Seen}
+use Rattle.sweep_state.specs.declared.end.Ended.{Ended}
 use Rattle.sweep_state.specs.declared.task.Task.{Task}
 use Rattle.sweep_start.specs.code.Given.{AllGiven, GivenTo, GivesRows, HasInputContext, InputContext}
 use Rattle.sweep_start.specs.code.Start.{GivesInputs, GivingIn, GoneOn, HasFunctions, Prepared, Prepares, Starts, SweepAsked, inputs_given}
-use Rattle.sweep_start.specs.declared.inputs.Inputs.TheVariants.{All, Short}
-use Rattle.sweep_start.specs.declared.inputs.Inputs.{Inputs}
-use Rattle.sweep_turn.proofs.EndModel.{looked-ends}
+use Rattle.sweep_turn.proofs.EndModel.{Continues, looked-ends}
 use Rattle.sweep_turn.specs.code.Visit.{going_by}
-use Rattle.sweep_turn.specs.declared.visit.Going.TheVariants.{Ended, On}
-use Rattle.sweep_turn.specs.declared.visit.Going.{Going}
 use Rattle.truth.specs.Settings.{first_difference}
 use Rattle.truth.specs.Truth.{Truth, same?}
 use borrow.Author.Tests.{eqb-false}
@@ -34,7 +30,7 @@ use lib.Dec.{eqb}
 use lib.ListN.{replicate}
 use mathlib.Core.Bool.{Bool, cond, false, true}
 use mathlib.Core.List.{List}
-use mathlib.Core.Path.{◌∙◌, ◌≡◌, ap, refl, subst, sym}
+use mathlib.Core.Path.{◌∙◌, ◌≡◌, ap, ap₂, refl, subst, sym}
 use native.Mathlib.Omega.{arith}
 
 -- Where the model's look goes on, nothing is decided.
@@ -81,18 +77,17 @@ prepared-given h = record { represents = h.represents; giving = h.giving }
 pub giving_framed : {t : Task} {b : Workspace} → GivingIn t b → HasInputContext t b.arrays 0
 giving_framed {b = b} h = record { context = frame_of h.functions h.entry b; given = prepared-given h.prepared }
 
-module _
-    (t : Task) (b : Workspace) (after : Arrays) (used : ℕ) {o : Inputs} (all : o ≡ All used) (gave : GivesRows t b.arrays 0 after o) where
+module _ (t : Task) (b : Workspace) (after : Arrays) (used : ℕ) (gave : GivesRows t b.arrays 0 after used (Ok tt)) where
   -- All rows are given.
   all-given :
       {functions : List Truth} {entry : List ℕ} → Prepared t functions entry b → AllGiven t (frame_of functions entry b) b.arrays 0 after used
-  all-given {functions} {entry} h = subst (GivesRows t b.arrays 0 after) all gave (frame_of functions entry b) (prepared-given h)
+  all-given {functions} {entry} h = gave (frame_of functions entry b) (prepared-given h)
 
   -- What looking needs is there, after all rows are given.
   pub given_looks : GivingIn t b → Looks t b.pairs after.diagrams after.stages
   given_looks h = looks (all-given h.prepared).given.represents
 
-  module _ {seen : Seen} (es : seen ≡ seen_by t b.pairs after.diagrams after.stages) where
+  module _ {seen : Option End} (es : seen ≡ seen_by t b.pairs after.diagrams after.stages) where
     -- The model goes on or ends by what was seen.
     seen-reached :
         {functions : List Truth} {entry : List ℕ} → Prepared t functions entry b
@@ -108,7 +103,7 @@ module _
 
     -- Where nothing was seen the first turn can begin.
     seen_nothing :
-        seen ≡ Nothing → (functions : List Truth) (entry : List ℕ) → Prepared t functions entry b
+        seen ≡ None → (functions : List Truth) (entry : List ℕ) → Prepared t functions entry b
         → GoneOn t functions entry (inputs_given t functions b) (workspace b.pairs after) used 0
     unfolding progress_of
     seen_nothing e functions entry h =
@@ -134,26 +129,29 @@ module _
         goes = sym (look-models rep) ∙ ap (progress_of after.rows t.inputs s) (sym es ∙ e)
 
   -- The sweep goes on or ends after all rows are given.
-  given-going :
-      (seen : Seen) → seen ≡ seen_by t b.pairs after.diagrams after.stages → GivesInputs t b (workspace b.pairs after) (going_by seen used 0)
-  given-going (Decided i) e = λ functions entry h. looked-ends (Decided i) (all-given h).given.represents (seen-reached e h) (seen_refer e h) refl
-  given-going Nothing e = seen_nothing e refl
-
-  -- The same for what the code returned.
   pub given-goes :
-      (seen : Seen) → seen ≡ seen_by t b.pairs after.diagrams after.stages → {g : Going} → g ≡ going_by seen used 0
-      → GivesInputs t b (workspace b.pairs after) g
-  given-goes seen e eg = subst (GivesInputs t b (workspace b.pairs after)) (sym eg) (given-going seen e)
+      (seen : Option End) → seen ≡ seen_by t b.pairs after.diagrams after.stages → GivesInputs t b (workspace b.pairs after) used 0 (going_by seen used 0)
+  given-goes (Some i) e = λ functions entry h. looked-ends (Some i) (all-given h).given.represents (seen-reached e h) (seen_refer e h) refl
+  given-goes None e = seen_nothing e refl
 
 -- The sweep ends where the row limit was passed.
 pub given-short :
-    (t : Task) (b : Workspace) (after : Arrays) (v used : ℕ) {o : Inputs} → o ≡ Short v used → GivesRows t b.arrays 0 after o
+    (t : Task) (b : Workspace) (after : Arrays) (v used : ℕ) → GivesRows t b.arrays 0 after used (Err v)
     → (functions : List Truth) (entry : List ℕ) → Prepared t functions entry b
     → Ends t functions (inputs_given t functions b) (workspace b.pairs after) (ended_with (Undecided (Rows v)) used 0 0)
 unfolding and_then verdict_of
-given-short t b after v used short gave functions entry h =
-    let x = subst (GivesRows t b.arrays 0 after) short gave (frame_of functions entry b) (prepared-given h) in
+given-short t b after v used gave functions entry h =
+    let x = gave (frame_of functions entry b) (prepared-given h) in
     record { reached = ap (λ (o : Progress). and_then o (look (posed t functions))) x.reached; closed = x.closed }
+
+-- What a look decided, by how the sweep goes on after it.
+pub going-ended : (seen : Option End) (u k : ℕ) {r : Ended} → going_by seen u k ≡ Err r → (e : End) × (seen ≡ Some e) × (r ≡ ended_with e u k 0)
+going-ended (Some e) u k i = (e, refl, cc)
+going-ended None u k i = absurd (subst Continues i tt)
+
+pub going-nothing : (seen : Option End) (u k : ℕ) → going_by seen u k ≡ Ok tt → seen ≡ None
+going-nothing (Some e) u k i = absurd (subst Continues (sym i) tt)
+going-nothing None u k i = refl
 
 -- What follows in the model where the first look sees nothing.
 abbrev after_nothing : Task → List Truth → State → Progress
@@ -168,7 +166,7 @@ module _ (t : Task) (b middle : Workspace) (prepares : Prepares t b middle) wher
   pub prepared-giving : {look : List ℕ} → SweepAsked t look b → GivingIn t middle
   prepared-giving h = record { functions = h.functions; entry = b.pairs; prepared = (prepares h.functions h.has-functions).prepared }
 
-  module _ {seen : Seen} (es : seen ≡ seen_by t middle.pairs middle.arrays.diagrams middle.arrays.stages) where
+  module _ {seen : Option End} (es : seen ≡ seen_by t middle.pairs middle.arrays.diagrams middle.arrays.stages) where
     -- The model's start, by what was seen.
     start_seen :
         (functions : List Truth) → HasFunctions t functions b.pairs
@@ -183,19 +181,21 @@ module _ (t : Task) (b middle : Workspace) (prepares : Prepares t b middle) wher
 
     -- Where nothing was seen each input gets its row.
     start-nothing :
-        seen ≡ Nothing → (functions : List Truth) → HasFunctions t functions b.pairs
+        seen ≡ None → (functions : List Truth) → HasFunctions t functions b.pairs
         → start (posed t functions) b.pairs ≡ inputs_given t functions middle
     unfolding progress_of and_then
     start-nothing e functions h =
         start_seen functions h
-        ∙ ap (λ (x : Seen). and_then (progress_of middle.arrays.rows t.inputs (state_on t middle 0 0) x) (after_nothing t functions)) e
+        ∙ ap (λ (x : Option End). and_then (progress_of middle.arrays.rows t.inputs (state_on t middle 0 0) x) (after_nothing t functions)) e
 
     -- The start goes on or ends as giving the inputs does.
-    pub start_gives : seen ≡ Nothing → (after : Workspace) (g : Going) → GivesInputs t middle after g → Starts t b after g
-    start_gives e after (On used steps) gave = λ functions h.
+    pub start_gives :
+        seen ≡ None → (after : Workspace) (used steps : ℕ) (g : Result (Unit {0}) Ended) → GivesInputs t middle after used steps g
+        → Starts t b after used steps g
+    start_gives e after used steps (Ok _) gave = λ functions h.
         let x = gave functions b.pairs (prepares functions h).prepared in
         record { reached = start-nothing e functions h ∙ x.reached; rests = x.rests }
-    start_gives e after (Ended r) gave = λ functions h.
+    start_gives e after used steps (Err r) gave = λ functions h.
         let x = gave functions b.pairs (prepares functions h).prepared in
         record { reached = start-nothing e functions h ∙ x.reached; closed = x.closed }
 
@@ -203,14 +203,22 @@ module _ (t : Task) (b middle : Workspace) (prepares : Prepares t b middle) wher
     start-ended :
         (functions : List Truth) (h : HasFunctions t functions b.pairs) {e : End}
         → start (posed t functions) b.pairs ≡ progress_of middle.arrays.rows t.inputs (state_on t middle 0 0) seen
-        → going_by seen 0 0 ≡ Ended (ended_with e 0 0 0) → Ends t functions (start (posed t functions) b.pairs) middle (ended_with e 0 0 0)
+        → going_by seen 0 0 ≡ Err (ended_with e 0 0 0) → Ends t functions (start (posed t functions) b.pairs) middle (ended_with e 0 0 0)
     start-ended functions h reached i =
         let rep = (prepares functions h).prepared.represents in
         looked-ends seen rep reached (subst (SeenRefers middle.arrays.rows 0 t.inputs) (sym es) (look-refers rep)) i
 
   -- The sweep ends after the first look where something was seen.
-  pub start-ends :
-      {seen : Seen} → seen ≡ seen_by t middle.pairs middle.arrays.diagrams middle.arrays.stages → {e : End} → seen ≡ Decided e
-      → Starts t b middle (Ended (ended_with e 0 0 0))
+  start-ends :
+      {seen : Option End} → seen ≡ seen_by t middle.pairs middle.arrays.diagrams middle.arrays.stages → (e : End) → seen ≡ Some e
+      → Starts t b middle 0 0 (Err (ended_with e 0 0 0))
   unfolding progress_of and_then
-  start-ends es i = λ functions h. start-ended (sym i ∙ es) functions h (start_seen (sym i ∙ es) functions h) refl
+  start-ends es e i = λ functions h. start-ended (sym i ∙ es) functions h (start_seen (sym i ∙ es) functions h) refl
+
+  -- The same for what the code returned.
+  pub start-stops :
+      {seen : Option End} → seen ≡ seen_by t middle.pairs middle.arrays.diagrams middle.arrays.stages → {used steps : ℕ} → used ≡ 0 → steps ≡ 0
+      → {r : Ended} → going_by seen used steps ≡ Err r → Starts t b middle used steps (Err r)
+  start-stops {seen} es {used} {steps} eu ek {r} i =
+      let e = going-ended seen 0 0 (ap₂ (going_by seen) (sym eu) (sym ek) ∙ i) in
+      subst (λ (q : Ended). Starts t b middle used steps (Err q)) (sym e.2) (start-ends es e.0 e.1)

@@ -181,33 +181,18 @@ pub record Along (t : Task) (a₀ : Arrays) (used₀ : ℕ) (a : Arrays) (used v
   pub to : v ≤ t.first
   pub here : (x : InputContext) → GivenTo t x a₀ used₀ 1 → GivenTo t x a used v
   pub ahead : (x : InputContext) → GivenTo t x a₀ used₀ 1 → giving_from t x a used v ≡ giving_from t x a₀ used₀ 1
-  pub same-diagrams : length a.diagrams ≡ length a₀.diagrams
-  pub same-stages : length a.stages ≡ length a₀.stages
-  pub same_rows : length a.rows ≡ length a₀.rows
-  pub same-marks : length a.marks ≡ length a₀.marks
 
 pub along_begins : {t : Task} {a : Arrays} {used : ℕ} → HasInputContext t a used → Along t a used a used 1
 along_begins f =
-    record {
-      from = omega arith;
-      to = f.given.represents.fit.well_formed.some_first;
-      here = λ x g. g;
-      ahead = λ x g. refl;
-      same-diagrams = refl;
-      same-stages = refl;
-      same_rows = refl;
-      same-marks = refl;
-    }
+    record { from = omega arith; to = f.given.represents.fit.well_formed.some_first; here = λ x g. g; ahead = λ x g. refl }
 
 module _ {t : Task} {a₀ : Arrays} {used₀ : ℕ} {a : Arrays} {used v : ℕ} (s : Along t a₀ used₀ a used v) where
   pub along-asks : HasInputContext t a₀ used₀ → v < t.first → RowAsked t v used a
   along-asks f h = given-asked (s.here f.context f.given) s.from h
 
-  pub along-goes-on :
-      {b : Arrays} {more : ℕ} → v < t.first → RowGiven t v used a b more → length b.diagrams ≡ length a.diagrams → length b.stages ≡ length a.stages
-      → length b.rows ≡ length a.rows → length b.marks ≡ length a.marks → Along t a₀ used₀ b more (v + 1)
+  pub along-goes-on : {b : Arrays} {more : ℕ} → v < t.first → RowGiven t v used a b more → Along t a₀ used₀ b more (v + 1)
   unfolding and_then
-  along-goes-on {b} {more} h r same-diagrams same-stages same_rows same-marks =
+  along-goes-on {b} {more} h r =
       rw (add-one v)
       (record {
         from = omega arith;
@@ -216,10 +201,6 @@ module _ {t : Task} {a₀ : Arrays} {used₀ : ℕ} {a : Arrays} {used v : ℕ} 
         ahead = λ x g.
             ap (λ (o : Progress). and_then o (give_inputs (posed t x.functions) (suc v) (t.first - suc v))) (sym (given-row v (s.here x g) s.from h r))
             ∙ sym (giving-turn t x a used v h) ∙ s.ahead x g;
-        same-diagrams = same-diagrams ∙ s.same-diagrams;
-        same-stages = same-stages ∙ s.same-stages;
-        same_rows = same_rows ∙ s.same_rows;
-        same-marks = same-marks ∙ s.same-marks;
       })
 
   pub along-short : {b : Arrays} → v < t.first → RowLacked t v used a b → (x : InputContext) → GivenTo t x a₀ used₀ 1 → ShortAt t x a₀ used₀ b v used

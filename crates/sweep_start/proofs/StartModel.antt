@@ -50,6 +50,10 @@ begun-has stages count v h e =
           ∙ cleared-word stages (2 * count) (2 * v) (omega arith)))
     ]
 
+-- What holds of the rows that a store leaves holds of the slice.
+pub cleared-as : {s t u : List ℕ} {limit : ℕ} → t ≡ u → Cleared s u limit → Cleared s t limit
+cleared-as e h = rw e h
+
 -- The workspace of pairs, of what handing over left, and of marks.
 abbrev pub workspace_with : List ℕ → Held → List ℕ → Workspace
 workspace_with pairs h marks = workspace pairs (arrays h.diagrams h.stages h.rows marks)
@@ -60,11 +64,17 @@ module _ {t : Task} {look : List ℕ} {b : Workspace} (q : SweepAsked t look b) 
   start-graph = sound-graph q.has-functions.fit.well_formed q.has-functions.count q.few q.has-functions.fit.sound
 
   -- The words that it begins with, with these rows.
-  abbrev begun_held : List ℕ → Held
+  abbrev pub begun_held : List ℕ → Held
   begun_held rows = held (begun b.arrays.stages t.count) (cleared b.arrays.diagrams (2 * t.count)) rows
 
+  -- The workspace that is left.
+  abbrev pub begun_last : List ℕ → Workspace
+  begun_last rows =
+      let pairs = normalise_from b.pairs t.first (t.count - t.first) in
+      workspace_with pairs (handed_in t pairs (begun_held rows)) (cleared b.arrays.marks t.count)
+
   -- There is room in them.
-  start-room : (rows : List ℕ) → TakesRoom t.count (begun_held rows)
+  pub start-room : (rows : List ℕ) → TakesRoom t.count (begun_held rows)
   start-room rows = begin-room t.count b.arrays.stages b.arrays.diagrams rows q.stages-long q.diagrams-long q.few
 
   module _ {functions : List Truth} (g : HasFunctions t functions b.pairs) {rows : List ℕ} (e : Cleared b.arrays.rows rows t.rows) where
@@ -135,11 +145,8 @@ module _ {t : Task} {look : List ℕ} {b : Workspace} (q : SweepAsked t look b) 
         same : b.pairs ≡ (begin (posed t functions) b.pairs).rows
         same = unfold begin in refl
 
-    -- The workspace that is left.
     abbrev last : Workspace
-    last =
-        let pairs = normalise_from b.pairs t.first (t.count - t.first) in
-        workspace_with pairs (handed_in t pairs (begun_held rows)) (cleared b.arrays.marks t.count)
+    last = begun_last rows
 
     -- Once normalised it is prepared.
     begun-prepared : PreparedFrom t functions b last
@@ -161,16 +168,6 @@ module _ {t : Task} {look : List ℕ} {b : Workspace} (q : SweepAsked t look b) 
   pub start-kept : {pairs : List ℕ} → pairs ≡ normalise_from b.pairs t.first (t.count - t.first) → Graph t.first t.count pairs
   start-kept ep = rw ep (graph-kept start-graph)
 
-  module _
-      {stages diagrams rows : List ℕ} (es : stages ≡ begun b.arrays.stages t.count) (ed : diagrams ≡ cleared b.arrays.diagrams (2 * t.count))
-    where
-      -- There is room for handing over.
-      pub start-held : TakesRoom t.count (held stages diagrams rows)
-      start-held = rw (es, ed) (start-room rows)
-
-      -- What the four calls leave.
-      pub start-prepares :
-          {pairs marks : List ℕ} {h : Held} → Cleared b.arrays.rows rows t.rows → marks ≡ cleared b.arrays.marks t.count
-          → pairs ≡ normalise_from b.pairs t.first (t.count - t.first) → h ≡ handed_in t pairs (held stages diagrams rows)
-          → Prepares t b (workspace_with pairs h marks)
-      start-prepares er em ep eh functions g = rw (eh, em, ep, es, ed) (begun-prepared g er)
+  -- What the four calls leave.
+  pub start-prepares : {rows : List ℕ} → Cleared b.arrays.rows rows t.rows → Prepares t b (begun_last rows)
+  start-prepares er functions g = begun-prepared g er

@@ -1,74 +1,62 @@
 // Each input gets its row.
+ghost use Rattle.std.specs.Prelude.{length, ◌≡◌};
+ghost use Rattle.bdd_unique.specs.code.Unique.{Makes};
 ghost use Rattle.sweep_start.specs.code.Given.{GivesRows, HasInputContext};
-ghost use Rattle.sweep_start.specs.code.Inputs.{Gives, RowAsked};
-ghost use Rattle.sweep_state.specs.code.Arrays.{arrays, arrays_of};
+ghost use Rattle.sweep_start.specs.code.Inputs.{Gives, RowAsked, level_of};
+ghost use Rattle.sweep_state.specs.code.Sweep.{SameLengths, lent, put_arrays, put_counts, put_rows};
 
-use bdd_unique::{Made, make};
+use bdd::store::RowStore;
+use bdd_unique::make;
 use sweep_draw::draw::draw;
-use sweep_state::task::Task;
+use sweep_state::mark::Mark;
+use sweep_state::sweep::Sweep;
 
-// The rows then used, or no row is left.
-#[derive(Clone, Copy)]
-pub enum Given {
-    Row(usize),
-    Full,
+// The row of input v, or none is left.
+fn make_row(s: &mut Sweep<'_>, v: u32) -> Option<usize>
+    requires { RowAsked s.old.task v s.old.used (lent s.old).arrays }
+    ensures made { Makes s.old.rows.now s.new.rows.now s.old.task.rows s.old.used s.new.used (level_of s.old.task v) 0 1 result }
+    ensures left { s.new ≡ put_counts s.new.used s.old.steps (put_rows s.new.rows.now s.old) }
+    ensures long { length s.new.rows.now ≡ length s.old.rows.now }
+{
+    let level = s.task.inputs + 1 - v as usize;
+    let mut store = RowStore {
+        rows: &mut *s.rows,
+        limit: s.task.rows,
+        used: s.used,
+    };
+    let made = make(&mut store, level, 0, 1);
+    s.used = store.used;
+    made
 }
 
-// Input v gets its row, waits and is marked 1; or it is marked 3.
-fn give_row(
-    diagrams: &mut [u32],
-    stages: &mut [u32],
-    rows: &mut [u32],
-    marks: &mut [u8],
-    task: Task,
-    v: u32,
-    used: usize,
-) -> Given
-    requires { RowAsked task v used (arrays diagrams.old stages.old rows.old marks.old) }
-    ensures { Gives task v used (arrays_of diagrams stages rows marks).entry (arrays_of diagrams stages rows marks).exit result }
+// Input v gets its row, waits and is marked 1; or it is marked 3, and is given back as the vertex at which the row limit was passed.
+fn give_row(s: &mut Sweep<'_>, v: u32) -> Result<(), u32>
+    requires { RowAsked s.old.task v s.old.used (lent s.old).arrays }
+    ensures given { Gives s.old.task v s.old.used (lent s.old).arrays (lent s.new).arrays s.new.used result }
+    ensures left { s.new ≡ put_arrays (lent s.new).arrays (put_counts s.new.used s.old.steps s.old) }
+    ensures long { SameLengths (lent s.old) (lent s.new) }
 {
-    let made = make(rows, used, task.rows, task.inputs + 1 - v as usize, 0, 1);
-    match made {
-        Made::At { reference, used } => {
-            draw(diagrams, stages, rows, marks, v, reference as u32, 1);
-            Given::Row(used)
+    match make_row(s, v) {
+        Some(reference) => {
+            draw(s, v, reference as u32, 1);
+            Ok(())
         }
-        Made::Full => {
-            marks[v as usize] = 3;
-            Given::Full
+        None => {
+            s.mark(v, Mark::Short);
+            Err(v)
         }
     }
 }
 
-// The rows then used; or the input at which the row limit was passed, and the rows used.
-#[derive(Clone, Copy)]
-pub enum Inputs {
-    All(usize),
-    Short(u32, usize),
-}
-
-// Each input gets its row, upwards.
-pub fn give_rows(
-    diagrams: &mut [u32],
-    stages: &mut [u32],
-    rows: &mut [u32],
-    marks: &mut [u8],
-    task: Task,
-    used: usize,
-) -> Inputs
-    requires { HasInputContext task (arrays diagrams.old stages.old rows.old marks.old) used }
-    ensures { GivesRows task (arrays_of diagrams stages rows marks).entry used (arrays_of diagrams stages rows marks).exit result }
+// Each input gets its row, upwards; or the input at which the row limit was passed.
+pub fn give_rows(s: &mut Sweep<'_>) -> Result<(), u32>
+    requires { HasInputContext s.old.task (lent s.old).arrays s.old.used }
+    ensures given { GivesRows s.old.task (lent s.old).arrays s.old.used (lent s.new).arrays s.new.used result }
+    ensures left { s.new ≡ put_arrays (lent s.new).arrays (put_counts s.new.used s.old.steps s.old) }
+    ensures long { SameLengths (lent s.old) (lent s.new) }
 {
-    let first = task.first;
-    let mut more = used;
-    let mut v = 1;
-    while v < first {
-        let given = give_row(diagrams, stages, rows, marks, task, v, more);
-        match given {
-            Given::Row(u) => more = u,
-            Given::Full => return Inputs::Short(v, more),
-        }
-        v += 1;
+    for v in 1..s.task.first {
+        give_row(s, v)?;
     }
-    Inputs::All(more)
+    Ok(())
 }

@@ -1,86 +1,79 @@
 // The start of a sweep: up to the first turn.
+ghost use Rattle.std.specs.Prelude.{length, ◌≡◌};
+ghost use Rattle.bdd.specs.code.Store.{StoreRoom};
+ghost use Rattle.bdd_unique.specs.code.Unique.{Cleared};
 ghost use Rattle.sweep_start.specs.code.Start.{GivesInputs, GivingIn, Prepares, Starts, SweepAsked};
-ghost use Rattle.sweep_state.specs.code.Arrays.{arrays, arrays_of};
-ghost use Rattle.sweep_state.specs.code.Meet.{workspace, workspaces};
+ghost use Rattle.sweep_state.specs.code.Sweep.{Kept, lent, put_counts, put_rows};
 
-use crate::inputs::{Inputs, give_rows};
+use crate::inputs::give_rows;
 use bdd_unique::clear;
+use sweep_look::look::look;
 use sweep_model::Cause;
 use sweep_normalise::normalise::normalise;
 use sweep_pick::begin::begin;
-use sweep_state::end::{End, Ended, Seen};
-use sweep_state::task::Task;
+use sweep_state::end::{End, Ended};
+use sweep_state::sweep::Sweep;
 use sweep_take::take::takes;
-use sweep_turn::visit::{Going, after_look};
+use sweep_turn::visit::after_look;
 
-// No row is used, no vertex but the constant has a diagram, all marks are 0; and the rows of the graph are normalised.
-fn prepare(
-    pairs: &mut [u32],
-    look: &mut [u32],
-    diagrams: &mut [u32],
-    stages: &mut [u32],
-    rows: &mut [u32],
-    marks: &mut [u8],
-    task: Task,
-)
-    requires { SweepAsked task look.old (workspace pairs.old (arrays diagrams.old stages.old rows.old marks.old)) }
-    ensures { Prepares task (workspaces pairs diagrams stages rows marks).entry (workspaces pairs diagrams stages rows marks).exit }
+// The rows are those of an empty store.
+fn clear_rows(rows: &mut [u32], limit: usize)
+    requires { StoreRoom rows.old limit 0 }
+    ensures { Cleared rows.old rows.new limit }
 {
-    clear(rows, task.rows);
-    begin(stages, diagrams, marks, task.count);
-    normalise(pairs, look, task.first, task.count);
-    takes(&pairs[..], stages, diagrams, rows, task.first, task.count);
+    let _store = clear(rows, limit);
+}
+
+// No row is used and no step is taken.
+fn empty(s: &mut Sweep<'_>)
+    requires { StoreRoom s.old.rows.now s.old.task.rows 0 }
+    ensures cleared { Cleared s.old.rows.now s.new.rows.now s.old.task.rows }
+    ensures left { s.new ≡ put_counts 0 0 (put_rows s.new.rows.now s.old) }
+    ensures long { length s.new.rows.now ≡ length s.old.rows.now }
+{
+    clear_rows(s.rows, s.task.rows);
+    s.used = 0;
+    s.steps = 0;
+}
+
+// No vertex but the constant has a diagram, all marks are 0; and the rows of the graph are normalised.
+fn prepare(s: &mut Sweep<'_>)
+    requires { SweepAsked s.old.task s.old.look.now (lent s.old) }
+    ensures prepared { Prepares s.old.task (lent s.old) (lent s.new) }
+    ensures counts { (s.new.used ≡ 0) × (s.new.steps ≡ 0) }
+    ensures kept { Kept s.old s.new }
+{
+    empty(s);
+    begin(s);
+    normalise(s);
+    takes(s);
 }
 
 // Each input gets its row, and the two literals are looked at again.
-fn give_inputs(
-    pairs: &[u32],
-    diagrams: &mut [u32],
-    stages: &mut [u32],
-    rows: &mut [u32],
-    marks: &mut [u8],
-    task: Task,
-) -> Going
-    requires { GivingIn task (workspace pairs.now (arrays diagrams.old stages.old rows.old marks.old)) }
-    ensures { GivesInputs task (workspace pairs.now (arrays_of diagrams stages rows marks).entry) (workspace pairs.now (arrays_of diagrams stages rows marks).exit) result }
+fn give_inputs(s: &mut Sweep<'_>) -> Result<(), Ended>
+    requires giving { GivingIn s.old.task (lent s.old) }
+    requires counts { (s.old.used ≡ 0) × (s.old.steps ≡ 0) }
+    ensures given { GivesInputs s.old.task (lent s.old) (lent s.new) s.new.used s.new.steps result }
+    ensures kept { Kept s.old s.new }
 {
-    let inputs = give_rows(diagrams, stages, rows, marks, task, 0);
-    match inputs {
-        Inputs::All(used) => {
-            let seen = sweep_look::look::look(pairs, &diagrams[..], &stages[..], task);
-            after_look(seen, used, 0)
-        }
-        Inputs::Short(v, used) => Going::Ended(Ended {
+    match give_rows(s) {
+        Ok(()) => after_look(look(s), s.used, s.steps),
+        Err(v) => Err(Ended {
             end: End::Undecided(Cause::Rows(v)),
-            used,
-            steps: 0,
+            used: s.used,
+            steps: s.steps,
             added: 0,
         }),
     }
 }
 
 // The graph is normalised and looked at; if nothing is decided, each input gets its row.
-pub fn start(
-    pairs: &mut [u32],
-    look: &mut [u32],
-    diagrams: &mut [u32],
-    stages: &mut [u32],
-    rows: &mut [u32],
-    marks: &mut [u8],
-    task: Task,
-) -> Going
-    requires { SweepAsked task look.old (workspace pairs.old (arrays diagrams.old stages.old rows.old marks.old)) }
-    ensures { Starts task (workspaces pairs diagrams stages rows marks).entry (workspaces pairs diagrams stages rows marks).exit result }
+pub fn start(s: &mut Sweep<'_>) -> Result<(), Ended>
+    requires { SweepAsked s.old.task s.old.look.now (lent s.old) }
+    ensures started { Starts s.old.task (lent s.old) (lent s.new) s.new.used s.new.steps result }
+    ensures kept { Kept s.old s.new }
 {
-    prepare(pairs, look, diagrams, stages, rows, marks, task);
-    let seen = sweep_look::look::look(&pairs[..], &diagrams[..], &stages[..], task);
-    match seen {
-        Seen::Nothing => give_inputs(&pairs[..], diagrams, stages, rows, marks, task),
-        Seen::Decided(end) => Going::Ended(Ended {
-            end,
-            used: 0,
-            steps: 0,
-            added: 0,
-        }),
-    }
+    prepare(s);
+    after_look(look(s), s.used, s.steps)?;
+    give_inputs(s)
 }

@@ -1,4 +1,5 @@
 -- What is seen by the words is what the model sees.
+use Rattle.std.specs.Prelude.{None, Some}
 use Prim.Native.Nat.{◌%◌, ◌*◌, ◌<◌, ℕ}
 use Rattle.aig.proofs.LiteralLaws.{vertex-below}
 use Rattle.aig.specs.Literal.{negate, vertex_of}
@@ -18,7 +19,6 @@ use Rattle.sweep_state.specs.code.Look.{Looks, SeenRefers, compared_as, progress
 use Rattle.sweep_state.specs.code.Represents.{Drawing, Represents}
 use Rattle.sweep_state.specs.code.Words.{Words, posed, state_of}
 use Rattle.sweep_state.specs.declared.end.End.TheVariants.{Differ, Equal, Inverse}
-use Rattle.sweep_state.specs.declared.end.Seen.TheVariants.{Decided, Nothing}
 use Rattle.sweep_state.specs.declared.task.Task.{Task}
 use Rattle.truth.proofs.Booleans.{iff_equal}
 use Rattle.truth.proofs.Equality.{equal-same, same-equal}
@@ -137,7 +137,7 @@ module _ {t : Task} {functions : List Truth} {entry : List ℕ} {w : Words} (rep
 
       compared :
           LiteralDrawn t functions w l → LiteralDrawn t functions w r → (e : Bool)
-          → progress_of w.rows t.inputs s (cond e (Decided Equal) (Decided (Differ f g)))
+          → progress_of w.rows t.inputs s (Some (cond e Equal (Differ f g)))
           ≡ cond e (ends equal 0 s)
           (ends (different (first_difference (literal_function (posed t functions) l) (literal_function (posed t functions) r))) 0 s)
       compared a b true = refl
@@ -145,13 +145,13 @@ module _ {t : Task} {functions : List Truth} {entry : List ℕ} {w : Words} (rep
 
       both :
           LiteralDrawn t functions w l → LiteralDrawn t functions w r
-          → progress_of w.rows t.inputs s (cond (eqb f g) (Decided Equal) (Decided (Differ f g)))
+          → progress_of w.rows t.inputs s (Some (cond (eqb f g) Equal (Differ f g)))
           ≡ cond (same? (literal_function (posed t functions) l) (literal_function (posed t functions) r)) (ends equal 0 s)
           (ends (different (first_difference (literal_function (posed t functions) l) (literal_function (posed t functions) r))) 0 s)
       both a b = rw (same-reference l r a b) (compared a b (eqb f g))
 
       go : (a b x : Bool) → has_word w.stages (vertex_of l) ≡ x → (y : Bool) → has_word w.stages (vertex_of r) ≡ y
-          → progress_of w.rows t.inputs s (cond a (Decided Equal) (cond b (Decided Inverse) (cond (x && y) (cond (eqb f g) (Decided Equal) (Decided (Differ f g))) Nothing)))
+          → progress_of w.rows t.inputs s (cond a (Some Equal) (cond b (Some Inverse) (cond (x && y) (Some (cond (eqb f g) Equal (Differ f g))) None)))
           ≡ cond a (ends equal 0 s)
           (cond b (ends (different (replicate t.inputs false)) 0 s)
           (cond (x && y)
@@ -182,7 +182,7 @@ module _ {t : Task} {functions : List Truth} {entry : List ℕ} {w : Words} (rep
       g = reference_of w.diagrams r
 
       go : (a b c x : Bool) → has_word w.stages (vertex_of l) ≡ x → (y : Bool) → has_word w.stages (vertex_of r) ≡ y
-          → SeenRefers w.rows w.used t.inputs (cond a (Decided Equal) (cond b (Decided Inverse) (cond (x && y) (cond c (Decided Equal) (Decided (Differ f g))) Nothing)))
+          → SeenRefers w.rows w.used t.inputs (cond a (Some Equal) (cond b (Some Inverse) (cond (x && y) (Some (cond c Equal (Differ f g))) None)))
       go true b c x ex y ey = tt
       go false true c x ex y ey = tt
       go false false true true ex true ey = tt

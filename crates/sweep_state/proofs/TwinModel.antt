@@ -1,4 +1,5 @@
 -- The twin found by a row's owner is the model's.
+use Rattle.std.specs.Prelude.{None, Option, Some}
 use Prim.Native.Nat.{◌/◌, ◌<◌, ◌≤◌, ℕ}
 use Rattle.aig.specs.Lookup.{first_word, second_word}
 use Rattle.bdd.proofs.DiagramLaws.{denote-constant, one-row-alike}
@@ -18,8 +19,6 @@ use Rattle.sweep_state.specs.code.Meet.{twin_at}
 use Rattle.sweep_state.specs.code.Represents.{Represents}
 use Rattle.sweep_state.specs.code.Words.{Words, posed}
 use Rattle.sweep_state.specs.declared.task.Task.{Task}
-use Rattle.sweep_state.specs.declared.twin.Twin.TheVariants.{At, None}
-use Rattle.sweep_state.specs.declared.twin.Twin.{Twin}
 use Rattle.truth.proofs.Booleans.{clash}
 use Rattle.truth.specs.Parts.{alike?}
 use Rattle.truth.specs.Truth.{Truth}
@@ -34,14 +33,14 @@ use native.Mathlib.Decide.{dec_le}
 use native.Mathlib.Omega.{arith}
 
 -- The model's answer that the code's stands for.
-abbrev pub answered : Twin → model.Candidate
-answered (At w) = at w
+abbrev pub answered : Option ℕ → model.Candidate
+answered (Some w) = at w
 answered None = none
 
 -- What the answer says of the row.
-data Answered (rows : List ℕ) (i : ℕ) : Twin → Type 0 where
-  constant : i ≡ 0 → Answered rows i (At 0)
-  owner : 1 ≤ i → 1 ≤ owner_at rows i → Answered rows i (At (owner_at rows i))
+data Answered (rows : List ℕ) (i : ℕ) : Option ℕ → Type 0 where
+  constant : i ≡ 0 → Answered rows i (Some 0)
+  owner : 1 ≤ i → 1 ≤ owner_at rows i → Answered rows i (Some (owner_at rows i))
   nobody : 1 ≤ i → owner_at rows i ≡ 0 → Answered rows i None
 
 answers : (rows : List ℕ) (reference : ℕ) → Answered rows (reference / 2) (twin_at rows reference)
@@ -49,7 +48,7 @@ unfolding twin_at
 answers rows reference = go (eqb (reference / 2) 0) refl (eqb (owner_at rows (reference / 2)) 0) refl
   where
     go : (a : Bool) → eqb (reference / 2) 0 ≡ a → (b : Bool) → eqb (owner_at rows (reference / 2)) 0 ≡ b
-        → Answered rows (reference / 2) (cond a (At 0) (cond b None (At (owner_at rows (reference / 2)))))
+        → Answered rows (reference / 2) (cond a (Some 0) (cond b None (Some (owner_at rows (reference / 2)))))
     go true e b f = constant (eqb-true (reference / 2) 0 e)
     go false e true f = let n = eqb-false (reference / 2) 0 e in nobody (omega arith) (eqb-true (owner_at rows (reference / 2)) 0 f)
     go false e false f =
@@ -88,8 +87,8 @@ module _
       (ap₂ alike? d.drawing.means g.means ∙ y.alike))
 
   -- What the answer says of twins.
-  Tells : Twin → Type 0
-  Tells (At x) = IsTwin (posed t functions) stages v x
+  Tells : Option ℕ → Type 0
+  Tells (Some x) = IsTwin (posed t functions) stages v x
   Tells None = (x : ℕ) → IsTwin (posed t functions) stages v x → ⊥
 
   tells : Tells (twin_at rows reference)
@@ -100,7 +99,7 @@ module _
       zero_has =
           sym (has-stage rep 0 (omega (arith, d.within))) ∙ ap has? rep.reachable.steady.staged.constant ∙ (unfold has? in refl)
 
-      go : {o : Twin} → Answered rows (reference / 2) o → Tells o
+      go : {o : Option ℕ} → Answered rows (reference / 2) o → Tells o
       go (constant i) =
           record {
             has_one = has-stage rep 0 (omega (arith, d.within)) ∙ zero_has;
@@ -131,12 +130,12 @@ module _
   unfolding Tells
   twin_models = go (twin_at rows reference) tells (twin_from (posed t functions) stages v 0 (length stages)) refl
     where
-      go : (o : Twin) → Tells o → (m : model.Candidate) → twin_from (posed t functions) stages v 0 (length stages) ≡ m → m ≡ answered o
-      go (At x) y (at z) e =
+      go : (o : Option ℕ) → Tells o → (m : model.Candidate) → twin_from (posed t functions) stages v 0 (length stages) ≡ m → m ≡ answered o
+      go (Some x) y (at z) e =
           ap at
           (twin-one (posed t functions) stages rep.reachable.apart v z x
           (twin_at_lem (posed t functions) stages v 0 (length stages) z e).is-twin y)
-      go (At x) y none e =
+      go (Some x) y none e =
           absurd
           (twin-none (posed t functions) stages v 0 (length stages) e x (omega arith)
           (omega (arith, stage-within stages x (has_not_gone (stage_of stages x) y.has_one))) y)
@@ -144,11 +143,11 @@ module _
       go None n none e = refl
 
   -- A twin that is found is another vertex.
-  pub twin-found : (x : ℕ) → twin_at rows reference ≡ At x → IsTwin (posed t functions) stages v x
+  pub twin-found : (x : ℕ) → twin_at rows reference ≡ Some x → IsTwin (posed t functions) stages v x
   unfolding Tells
   twin-found x e = subst Tells e tells
 
-  pub twin-asked : (x : ℕ) → twin_at rows reference ≡ At x → (x < t.count) × (x ≢ v)
+  pub twin-asked : (x : ℕ) → twin_at rows reference ≡ Some x → (x < t.count) × (x ≢ v)
   twin-asked x e =
       let y = twin-found x e in
       let h = twin_inside x y in

@@ -1,7 +1,9 @@
 pub mod Arrays
 pub mod Ending
 pub mod Look
+pub mod Marks
 pub mod Meet
 pub mod Represents
 pub mod Settle
+pub mod Sweep
 pub mod Words

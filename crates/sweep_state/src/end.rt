@@ -2,7 +2,7 @@
 use sweep_model::Cause;
 
 // One literal or one function; inverse literals; the references of two functions; or it is undecided.
-#[derive(Clone, Copy)]
+#[derive(Clone, Copy, Debug, PartialEq, Eq)]
 pub enum End {
     Equal,
     Inverse,
@@ -10,15 +10,8 @@ pub enum End {
     Undecided(Cause),
 }
 
-// How the sweep ends, or nothing is decided.
-#[derive(Clone, Copy)]
-pub enum Seen {
-    Decided(End),
-    Nothing,
-}
-
 // How a sweep ended, the rows used, the steps taken, and the rows that a product which broke off had added.
-#[derive(Clone, Copy)]
+#[derive(Clone, Copy, Debug, PartialEq, Eq)]
 pub struct Ended {
     pub end: End,
     pub used: usize,

@@ -1,6 +1,7 @@
-// What a sweep is asked, what its slices stand for, and how it ends. Types, definitions and laws; there is no code here.
+// What a sweep is asked, what its slices hold and stand for, and how it ends.
 #![tactic(auto)]
 
 pub mod end;
+pub mod mark;
+pub mod sweep;
 pub mod task;
-pub mod twin;

@@ -2,7 +2,7 @@
 
 // How many vertices come first (the constant and the inputs) and how many there are; the inputs; the two literals looked at; the limits on
 // size, rows and steps.
-#[derive(Clone, Copy)]
+#[derive(Clone, Copy, Debug, PartialEq, Eq)]
 pub struct Task {
     pub first: u32,
     pub count: u32,

@@ -1,4 +1,5 @@
 -- A vertex met: the words stand for the model's state, without a twin and with one.
+use Rattle.std.specs.Prelude.{None, Option, Some}
 use Prim.Native.Nat.{◌*◌, ◌/◌, ◌<◌, ◌≤◌, max, min, ℕ}
 use Rattle.aig.specs.Literal.{literal_of}
 use Rattle.aig.specs.Lookup.{first_word, second_word}
@@ -22,14 +23,12 @@ use Rattle.sweep_state.proofs.LookModel.{has-stage}
 use Rattle.sweep_merge.proofs.MeetLaws.{drawn-room, meet-asks, merge-graph}
 use Rattle.sweep_state.proofs.NormaliseModel.{Normalises, normalised-represents, normalised_state, sound-graph}
 use Rattle.sweep_state.proofs.TwinModel.{answered, twin-asked, twin-found, twin_models}
-use Rattle.sweep_state.specs.code.Meet.{MeetAsked, MergeAsked, held_of, inverse?, joined, merged_workspace, met_with, met_workspace, twin_at, workspace}
+use Rattle.sweep_state.specs.code.Meet.{MeetAsked, MergeAsked, Workspace, held_of, inverse?, joined, merged_workspace, met_with, met_workspace, twin_at, workspace}
 use Rattle.sweep_state.specs.code.Represents.{Drawing, Represents}
 use Rattle.sweep_state.specs.code.Settle.{on_workspace, workspace_of}
 use Rattle.sweep_state.specs.code.Arrays.{Arrays, arrays, drawn_at}
 use Rattle.sweep_state.specs.code.Words.{Words, posed, state_of}
 use Rattle.sweep_state.specs.declared.task.Task.{Task}
-use Rattle.sweep_state.specs.declared.twin.Twin.TheVariants.{At, None}
-use Rattle.sweep_state.specs.declared.twin.Twin.{Twin}
 use Rattle.truth.proofs.Booleans.{iff_equal}
 use Rattle.truth.proofs.Equality.{equal-same, same-equal}
 use Rattle.truth.specs.Parts.{size}
@@ -43,6 +42,19 @@ use mathlib.Core.List.{List}
 use mathlib.Core.Path.{◌∙◌, ◌≡◌, ap, refl, sym}
 use native.Mathlib.Decide.{ℕ_discrete}
 use native.Mathlib.Omega.{arith}
+
+-- A vertex that has its diagram merges with its twin, if there is one.
+pub meet-twin :
+    (t : Task) (v reference size : ℕ) (b : Workspace) {w : ℕ} → twin_at b.arrays.rows reference ≡ Some w
+    → merged_workspace t v w (workspace b.pairs (drawn_at v reference size b.arrays)) ≡ met_workspace t v reference size b
+unfolding met_with
+meet-twin t v reference size b o = ap (met_with t v (workspace b.pairs (drawn_at v reference size b.arrays))) (sym o)
+
+pub meet-single :
+    (t : Task) (v reference size : ℕ) (b : Workspace) → twin_at b.arrays.rows reference ≡ None
+    → workspace b.pairs (drawn_at v reference size b.arrays) ≡ met_workspace t v reference size b
+unfolding met_with
+meet-single t v reference size b o = ap (met_with t v (workspace b.pairs (drawn_at v reference size b.arrays))) (sym o)
 
 module _
     {t : Task} {functions : List Truth} {entry : List ℕ} {w : Words} (rep : Represents t functions entry w) {rows : List ℕ} {u v reference count : ℕ}
@@ -109,7 +121,7 @@ module _
         (twin_models rep d ∙ ap answered o))
 
     -- With a twin.
-    module _ (x : ℕ) (o : twin_at rows reference ≡ At x) where
+    module _ (x : ℕ) (o : twin_at rows reference ≡ Some x) where
       -- Inverse references are inverse functions.
       inverse-is : inverse? drawn.diagrams v x ≡ not (same? (function_of p v) (function_of p x))
       unfolding inverse?
@@ -197,15 +209,15 @@ module _
     unfolding met_with
     met-state = rw (twin_models rep d) (go (twin_at rows reference) refl)
       where
-        go : (o : Twin) → twin_at rows reference ≡ o
+        go : (o : Option ℕ) → twin_at rows reference ≡ o
             → state_of t.count (on_workspace (met_with t v (workspace w.pairs drawn) o) u k) ≡ meet p v before (answered o)
         go None e = alone_state e
-        go (At x) e = merged-state x e
+        go (Some x) e = merged-state x e
 
     pub met-represents : Represents t functions entry (on_workspace (met_workspace t v reference count (workspace_of w rows)) u k)
     unfolding met_with
     met-represents = go (twin_at rows reference) refl
       where
-        go : (o : Twin) → twin_at rows reference ≡ o → Represents t functions entry (on_workspace (met_with t v (workspace w.pairs drawn) o) u k)
+        go : (o : Option ℕ) → twin_at rows reference ≡ o → Represents t functions entry (on_workspace (met_with t v (workspace w.pairs drawn) o) u k)
         go None e = alone_represents e
-        go (At x) e = merged-represents x e
+        go (Some x) e = merged-represents x e

@@ -1,13 +1,16 @@
 -- A product, as the model takes it.
+use Rattle.sweep_state.specs.declared.end.End.{End}
+use Rattle.std.specs.Prelude.{Option}
 use Prim.Native.Nat.{◌*◌, ◌-◌, ◌<◌, ◌≤◌, ℕ}
+use Rattle.std.specs.Prelude.{Err, Ok, Result}
 use Rattle.aig.specs.Literal.{vertex_of}
 use Rattle.aig.specs.Lookup.{first_word, second_word}
 use Rattle.bdd.proofs.StoreLaws.{store_length}
 use Rattle.bdd.specs.code.Store.{Store}
 use Rattle.bdd_unique.specs.code.Unique.{GivenBack}
-use Rattle.product.specs.Product.{Multiplied, Multiplies, book_of, outcome_of, used_by}
-use Rattle.product.specs.declared.Product.TheVariants.{Done, ShortOfRows, ShortOfSteps}
-use Rattle.product.specs.declared.Product.{Product}
+use Rattle.product.specs.Product.{Multiplied, Multiplies, book_of, outcome_of}
+use Rattle.product.specs.declared.steps.Short.TheVariants as short
+use Rattle.product.specs.declared.steps.Short.{Short}
 use Rattle.product_model.specs.Run.{run}
 use Rattle.sweep_model.proofs.Stages.{open-has}
 use Rattle.sweep_model.proofs.Steady.{due-within}
@@ -26,11 +29,10 @@ use Rattle.sweep_state.specs.code.Settle.{BeforeProduct, Ended, Settled, on_work
 use Rattle.sweep_state.specs.code.Arrays.{arrays}
 use Rattle.sweep_state.specs.code.Words.{posed}
 use Rattle.sweep_state.specs.declared.end.End.TheVariants.{Undecided}
-use Rattle.sweep_state.specs.declared.end.Seen.{Seen}
+use Rattle.sweep_state.specs.code.Sweep.{lent}
+use Rattle.sweep_state.specs.declared.sweep.Sweep.{Sweep}
 use Rattle.sweep_state.specs.declared.task.Task.{Task}
-use Rattle.sweep_step.specs.code.Multiply.{Concludes, Context, DueOn, Looked, Takes, multiplied, scene_of}
-use Rattle.sweep_step.specs.declared.multiply.Step.TheVariants as step
-use Rattle.sweep_step.specs.declared.multiply.Step.{Step}
+use Rattle.sweep_step.specs.code.Multiply.{Concludes, Context, DueOn, Looked, Takes, end_by, multiplied, scene_of}
 use Rattle.truth.proofs.Booleans.{cond_ap}
 use Rattle.truth.specs.Parts.{size}
 use Rattle.truth.specs.Truth.{Truth, conj}
@@ -73,62 +75,43 @@ module _ {t : Task} {x : Context} {v used steps : ℕ} {b : Workspace} (d : DueO
   second-drawn : LiteralDrawn t x.functions (on_workspace b used steps) (second_word b.pairs v)
   second-drawn = operand_drawn (second_word b.pairs v) second_below d.due.second-open
 
-  -- What the product needs is there.
-  pub product-asked : ProductAsked t v used steps b.pairs b.arrays.diagrams b.arrays.rows
-  product-asked =
-      let rep = d.represents in
-      record {
-        pair = omega (arith, rep.reachable.steady.sound.downward.long, rep.count, inside);
-        first_diagram = omega (arith, first_below, inside, rep.diagrams-long);
-        second_diagram = omega (arith, second_below, inside, rep.diagrams-long);
-        asked = record {
-          store = rep.store;
-          first = first-drawn.within;
-          second = second-drawn.within;
-          few = rep.narrow;
-          under = rep.reachable.accounted.proper.taken;
-          small = rep.short;
-        };
-      }
+  -- What the product gave, and its run.
+  abbrev Gave : List ℕ → ℕ → ℕ → Result ℕ Short → Type 0
+  Gave rows u k r =
+      Multiplies b.arrays.rows rows t.rows used u (first_operand b.pairs b.arrays.diagrams v) (second_operand b.pairs b.arrays.diagrams v)
+      t.inputs steps k t.steps r
 
-  -- What the product gave, in another spelling of its answer.
-  abbrev Gave : List ℕ → Product → Type 0
-  Gave rows r =
-      Multiplies b.arrays.rows rows t.rows used (first_operand b.pairs b.arrays.diagrams v) (second_operand b.pairs b.arrays.diagrams v)
-      t.inputs steps t.steps r
-
-  abbrev Ran : List ℕ → Product → Type 0
-  Ran rows r =
-      Multiplied b.arrays.rows rows t.rows used (first_operand b.pairs b.arrays.diagrams v) (second_operand b.pairs b.arrays.diagrams v)
-      t.inputs steps t.steps r
+  abbrev Ran : List ℕ → ℕ → ℕ → Result ℕ Short → Type 0
+  Ran rows u k r =
+      Multiplied b.arrays.rows rows t.rows used u (first_operand b.pairs b.arrays.diagrams v) (second_operand b.pairs b.arrays.diagrams v)
+      t.inputs steps k t.steps r
 
   -- The run is the model's.
-  product_is : (rows : List ℕ) (r : Product) → Ran rows r → product_of (posed t x.functions) v (state_on t b used steps) ≡ outcome_of rows r
-  product_is rows r m =
+  product_is :
+      (rows : List ℕ) (u k : ℕ) (r : Result ℕ Short) → Ran rows u k r
+      → product_of (posed t x.functions) v (state_on t b used steps) ≡ outcome_of (book_of rows u k) r
+  product_is rows u k r m =
       sym (ap₂ (λ (f g : Truth). run t.rows t.steps f g (book_of b.arrays.rows used steps)) first-drawn.means second-drawn.means) ∙ m.ran
 
   -- Done.
-  module _ (rows : List ℕ) {r : Product} {reference u k : ℕ} (told : r ≡ Done reference u k) (gave : Gave rows r) (long : length rows ≡ length b.arrays.rows) where
-    given : Gave rows (Done reference u k)
-    given = subst (Gave rows) told gave
-
+  module _ (rows : List ℕ) {reference u k : ℕ} (gave : Gave rows u k (Ok reference)) (long : length rows ≡ length b.arrays.rows) where
     pub product-ended : Ended t (setting_of x b steps k) v reference u used (on_rows b rows)
     product-ended =
         record {
           represents = d.represents;
           due = d.due;
-          grown = given.0.grown;
+          grown = gave.0.grown;
           long = long;
-          within = given.1.reference;
+          within = gave.1.reference;
           means =
-              given.1.means ∙ ap₂ conj first-drawn.means second-drawn.means
+              gave.1.means ∙ ap₂ conj first-drawn.means second-drawn.means
               ∙ sym (d.represents.reachable.steady.sound.means v d.due.made (due-within d.due));
-          ran = product_is rows (Done reference u k) given.0;
+          ran = product_is rows u k (Ok reference) gave.0;
         }
 
   -- What breaking off needs is there.
-  short_back : (rows : List ℕ) (r : Product) → Ran rows r → (Store rows t.rows (used_by r) × (used ≤ used_by r)) × (v < length b.arrays.marks)
-  short_back rows r m = ((m.grown.store, m.grown.more), omega (arith, inside, d.represents.marks-long))
+  pub short_back : (rows : List ℕ) (u k : ℕ) (r : Result ℕ Short) → Ran rows u k r → (Store rows t.rows u × (used ≤ u)) × (v < length b.arrays.marks)
+  short_back rows u k r m = ((m.grown.store, m.grown.more), omega (arith, inside, d.represents.marks-long))
 
   -- The sweep ends where it was broken off.
   broken-ends :
@@ -148,37 +131,40 @@ module _ {t : Task} {x : Context} {v used steps : ℕ} {b : Workspace} (d : DueO
         closed = broken-closed d.represents r d.due k h c;
       }
 
-  -- Short of rows.
-  module _ (rows : List ℕ) {r : Product} {u k : ℕ} (told : r ≡ ShortOfRows u k) (gave : Gave rows r) where
-    pub lacking-rows : (Store rows t.rows u × (used ≤ u)) × (v < length b.arrays.marks)
-    lacking-rows = short_back rows (ShortOfRows u k) (subst (Gave rows) told gave)
+  -- Short of rows or of steps.
+  module _ (rows : List ℕ) {u k : ℕ} where
+    pub lacking : (e : Short) → Gave rows u k (Err e) → (Store rows t.rows u × (used ≤ u)) × (v < length b.arrays.marks)
+    lacking e m = short_back rows u k (Err e) m
 
-    pub multiply-lacks-rows :
-        {last marks : List ℕ} → GivenBack rows last t.rows u used → length last ≡ length b.arrays.rows → marks ≡ set b.arrays.marks v 3
-        → Ends t x.functions (multiplied t x v used steps b) (workspace b.pairs (arrays b.arrays.diagrams b.arrays.stages last marks))
-        (ended_with (Undecided (Rows v)) used k (u - used))
+    pub multiply-lacks :
+        (e : Short) → Gave rows u k (Err e) → {last : List ℕ} → GivenBack rows last t.rows u used → length last ≡ length b.arrays.rows
+        → Ends t x.functions (multiplied t x v used steps b) (workspace b.pairs (arrays b.arrays.diagrams b.arrays.stages last (set b.arrays.marks v 3)))
+        (ended_with (end_by v e) used k (u - used))
     unfolding multiply conclude
-    multiply-lacks-rows g long em =
-        let m : Ran rows (ShortOfRows u k) = subst (Gave rows) told gave in
-        rw em
-        (broken-ends (record { grown = m.grown; given_back_lem = g; long = long }) k m.under (Rows v)
-        (ap (conclude (posed t x.functions) v (state_on t b used steps)) (product_is rows (ShortOfRows u k) m)))
+    multiply-lacks short.Rows m g long =
+        broken-ends (record { grown = m.grown; given_back_lem = g; long = long }) k m.under (Rows v)
+        (ap (conclude (posed t x.functions) v (state_on t b used steps)) (product_is rows u k (Err short.Rows) m))
+    multiply-lacks short.Steps m g long =
+        broken-ends (record { grown = m.grown; given_back_lem = g; long = long }) k m.under (Steps v)
+        (ap (conclude (posed t x.functions) v (state_on t b used steps)) (product_is rows u k (Err short.Steps) m))
 
-  -- Short of steps.
-  module _ (rows : List ℕ) {r : Product} {u k : ℕ} (told : r ≡ ShortOfSteps u k) (gave : Gave rows r) where
-    pub lacking-steps : (Store rows t.rows u × (used ≤ u)) × (v < length b.arrays.marks)
-    lacking-steps = short_back rows (ShortOfSteps u k) (subst (Gave rows) told gave)
-
-    pub multiply-lacks-steps :
-        {last marks : List ℕ} → GivenBack rows last t.rows u used → length last ≡ length b.arrays.rows → marks ≡ set b.arrays.marks v 3
-        → Ends t x.functions (multiplied t x v used steps b) (workspace b.pairs (arrays b.arrays.diagrams b.arrays.stages last marks))
-        (ended_with (Undecided (Steps v)) used k (u - used))
-    unfolding multiply conclude
-    multiply-lacks-steps g long em =
-        let m : Ran rows (ShortOfSteps u k) = subst (Gave rows) told gave in
-        rw em
-        (broken-ends (record { grown = m.grown; given_back_lem = g; long = long }) k m.under (Steps v)
-        (ap (conclude (posed t x.functions) v (state_on t b used steps)) (product_is rows (ShortOfSteps u k) m)))
+-- What the product needs is there.
+pub product-asked : (v : ℕ) (s : Sweep) {x : Context} → DueOn s.task x v s.used s.steps (lent s) → ProductAsked s v
+product-asked v s d =
+    let rep = d.represents in
+    record {
+      pair = omega (arith, rep.reachable.steady.sound.downward.long, rep.count, inside d);
+      first_diagram = omega (arith, first_below d, inside d, rep.diagrams-long);
+      second_diagram = omega (arith, second_below d, inside d, rep.diagrams-long);
+      asked = record {
+        store = rep.store;
+        first = (first-drawn d).within;
+        second = (second-drawn d).within;
+        few = rep.narrow;
+        under = rep.reachable.accounted.proper.taken;
+        small = rep.short;
+      };
+    }
 
 -- A product that is done.
 module _ {t : Task} {x : BeforeProduct} {v reference used kept : ℕ} {b : Workspace} (e : Ended t x v reference used kept b) where
@@ -195,7 +181,7 @@ module _ {t : Task} {x : BeforeProduct} {v reference used kept : ℕ} {b : Works
       (meet p v (with_book ended s) (twin_from p s.stages v 0 (length s.stages))))
 
   pub conclude-looked :
-      {after : Workspace} {more steps : ℕ} {seen : Seen} → Settled t x v used kept b after more
+      {after : Workspace} {more steps : ℕ} {seen : Option End} → Settled t x v used kept b after more
       → seen ≡ seen_by t after.pairs after.arrays.diagrams after.arrays.stages → x.taken ≡ steps
       → Looked t (scene_of x) v kept x.steps (workspace_before x b) after seen more steps
   conclude-looked {after} {more} {steps} {seen} s es et =
@@ -208,11 +194,13 @@ module _ {t : Task} {x : BeforeProduct} {v reference used kept : ℕ} {b : Works
         refers = subst (SeenRefers after.arrays.rows more t.inputs) (sym es) (look-refers s.represents);
       })
 
+-- A sweep with the rows, the rows used and the steps that a product left.
+abbrev pub taken_on : List ℕ → ℕ → ℕ → Sweep → Sweep
+taken_on rows u k s = record s { rows = record s.rows { now = rows }; used = u; steps = k }
+
 -- What holds of the end of a product that is done holds of the whole, where the product ended so in each context.
 pub multiply-concludes :
-    (t : Task) (v steps : ℕ) (b : Workspace) {reference used more taken : ℕ} {rows : List ℕ}
-    → ((x : Context) → DueOn t x v used steps b → Ended t (setting_of x b steps taken) v reference more used (on_rows b rows))
-    → (after : Workspace) (r : Step) → Concludes t v reference more used taken (on_rows b rows) after r → Takes t v used steps b after r
-multiply-concludes t v steps b {taken = taken} ended after (step.Looked seen left k) c = λ x d. c (setting_of x b steps taken) (ended x d) refl
-multiply-concludes t v steps b ended after (step.Rows left k more) c = absurd c
-multiply-concludes t v steps b ended after (step.Steps left k more) c = absurd c
+    (v : ℕ) (s : Sweep) (rows : List ℕ) {reference u k : ℕ}
+    → ((x : Context) → DueOn s.task x v s.used s.steps (lent s) → Ended s.task (setting_of x (lent s) s.steps k) v reference u s.used (on_rows (lent s) rows))
+    → (after : Sweep) (seen : Option End) → Concludes v reference s.used (taken_on rows u k s) after seen → Takes v s after (Ok seen)
+multiply-concludes v s rows {k = k} ended after seen c = λ x d. c (setting_of x (lent s) s.steps k) (ended x d) refl

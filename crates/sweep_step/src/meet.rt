@@ -1,33 +1,22 @@
 // A product within the size limit.
-ghost use Rattle.sweep_state.specs.code.Arrays.{arrays};
-ghost use Rattle.sweep_state.specs.code.Meet.{MeetAsked, met_workspace, workspace, workspaces};
-ghost use Rattle.std.specs.Prelude.{◌≡◌};
+ghost use Rattle.std.specs.Prelude.{length, ◌≡◌};
+ghost use Rattle.sweep_state.specs.code.Meet.{MeetAsked, met_workspace};
+ghost use Rattle.sweep_state.specs.code.Sweep.{lent, put_lent, put_look};
 
 use sweep_draw::draw::draw;
 use sweep_merge::merge::merge;
 use sweep_merge::twin::find_twin;
-use sweep_state::task::Task;
-use sweep_state::twin::Twin;
+use sweep_state::sweep::Sweep;
 
 // Vertex v gets its diagram; where another vertex has its function or the inverse, the two merge.
-pub fn meet(
-    pairs: &mut [u32],
-    look: &mut [u32],
-    diagrams: &mut [u32],
-    stages: &mut [u32],
-    rows: &mut [u32],
-    marks: &mut [u8],
-    task: Task,
-    v: u32,
-    reference: u32,
-    size: u32,
-)
-    requires { MeetAsked task v reference size look.old (workspace pairs.old (arrays diagrams.old stages.old rows.old marks.old)) }
-    ensures { (workspaces pairs diagrams stages rows marks).exit ≡ met_workspace task v reference size (workspaces pairs diagrams stages rows marks).entry }
+pub fn meet(s: &mut Sweep<'_>, v: u32, reference: u32, size: u32)
+    requires { MeetAsked s.old.task v reference size s.old.look.now (lent s.old) }
+    ensures left { s.new ≡ put_look s.new.look.now (put_lent (met_workspace s.old.task v reference size (lent s.old)) s.old) }
+    ensures long { length s.new.look.now ≡ length s.old.look.now }
 {
-    let twin = find_twin(&rows[..], reference);
-    draw(diagrams, stages, rows, marks, v, reference, size);
-    if let Twin::At(w) = twin {
-        merge(pairs, look, diagrams, stages, rows, task, v, w);
+    let twin = find_twin(s, reference);
+    draw(s, v, reference, size);
+    if let Some(w) = twin {
+        merge(s, v, w);
     }
 }

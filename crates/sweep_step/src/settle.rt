@@ -1,48 +1,41 @@
 // A product that is done.
-ghost use Rattle.std.specs.Prelude.{◌*◌, ◌≤◌, length};
-ghost use Rattle.sweep_state.specs.code.Arrays.{arrays};
-ghost use Rattle.sweep_state.specs.code.Meet.{workspace, workspaces};
+ghost use Rattle.std.specs.Prelude.{◌*◌, ◌/◌, ◌≤◌, length, ◌≡◌};
+ghost use Rattle.bdd.specs.code.Store.{Store};
+ghost use Rattle.bdd_size.specs.code.Marks.{Sized};
 ghost use Rattle.sweep_state.specs.code.Settle.{EndedIn, Settles};
+ghost use Rattle.sweep_state.specs.code.Sweep.{Kept, lent};
 
 use crate::meet::meet;
+use bdd::store::RowStore;
 use bdd_size::size;
 use sweep_draw::drop::drop_vertex;
-use sweep_state::task::Task;
+use sweep_state::sweep::Sweep;
 
-// Vertex v, whose product has a reference, is dropped where it is too large, and else met. Gives the rows then used.
-pub fn settle(
-    pairs: &mut [u32],
-    look: &mut [u32],
-    diagrams: &mut [u32],
-    stages: &mut [u32],
-    rows: &mut [u32],
-    marks: &mut [u8],
-    task: Task,
-    v: u32,
-    reference: usize,
-    used: usize,
-    kept: usize,
-) -> usize
-    requires ended { EndedIn task v reference used kept (workspace pairs.old (arrays diagrams.old stages.old rows.old marks.old)) }
-    requires long { 2 * task.count ≤ length look.old }
-    ensures { Settles task v reference used kept (workspaces pairs diagrams stages rows marks).entry (workspaces pairs diagrams stages rows marks).exit result }
+// The size of a reference's function.
+fn measure(s: &mut Sweep<'_>, reference: usize) -> usize
+    requires { Store s.old.rows.now s.old.task.rows s.old.used × (reference / 2 ≤ s.old.used) }
+    ensures same { s.new ≡ s.old }
+    ensures sized { Sized s.old.rows.now s.old.rows.now reference result }
 {
-    let measured = size(rows, used, task.rows, reference);
-    if task.size < measured {
-        drop_vertex(stages, rows, marks, task, v, used, kept);
-        return kept;
+    let mut store = RowStore {
+        rows: &mut *s.rows,
+        limit: s.task.rows,
+        used: s.used,
+    };
+    size(&mut store, reference)
+}
+
+// Vertex v, whose product has a reference, is dropped where it is too large, and else met.
+pub fn settle(s: &mut Sweep<'_>, v: u32, reference: usize, kept: usize)
+    requires ended { EndedIn s.old.task v reference s.old.used kept (lent s.old) }
+    requires long { 2 * s.old.task.count ≤ length s.old.look.now }
+    ensures settled { Settles s.old.task v reference s.old.used kept (lent s.old) (lent s.new) s.new.used }
+    ensures same { Kept s.old s.new × (s.new.steps ≡ s.old.steps) }
+{
+    let measured = measure(s, reference);
+    if s.task.size < measured {
+        drop_vertex(s, v, kept);
+        return;
     }
-    meet(
-        pairs,
-        look,
-        diagrams,
-        stages,
-        rows,
-        marks,
-        task,
-        v,
-        reference as u32,
-        measured as u32,
-    );
-    used
+    meet(s, v, reference as u32, measured as u32);
 }

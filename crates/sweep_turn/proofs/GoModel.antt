@@ -1,10 +1,9 @@
 -- The loop of turns: what follows is what followed at first.
 use Prim.Native.Nat.{◌*◌, ◌<◌, ◌≤◌, suc, ℕ}
+use Rattle.std.specs.Prelude.{Err, None, Ok, Option, Result, Some}
 use Rattle.sweep_pick.proofs.PickLaws.{Least, Sized, least-is, pick_models}
 use Rattle.sweep_graph.proofs.StageLaws.{stage_at}
 use Rattle.sweep_pick.specs.code.Pick.{least_from, twin_of}
-use Rattle.sweep_pick.specs.declared.pick.Picked.TheVariants.{At, None}
-use Rattle.sweep_pick.specs.declared.pick.Picked.{Picked}
 use Rattle.sweep_model.proofs.Bound.{go-enough, go_stops, go-turns, open-turns, scanning-budget}
 use Rattle.sweep_model.proofs.Stages.{waits-has}
 use Rattle.sweep_model.proofs.Steady.{opened_at}
@@ -14,13 +13,14 @@ use Rattle.sweep_model.specs.Sweep.{Progress, and_then, go, go_for, pick_from, t
 use Rattle.sweep_state.specs.code.Meet.{Workspace}
 use Rattle.sweep_state.specs.code.Settle.{state_on}
 use Rattle.sweep_state.specs.code.Words.{posed}
-use Rattle.sweep_state.specs.declared.end.Ended as result
+use Rattle.sweep_state.proofs.LongLaws.{kept-same, kept-then}
+use Rattle.sweep_state.specs.code.Sweep.{Kept, lent}
+use Rattle.sweep_state.specs.declared.end.Ended.{Ended}
+use Rattle.sweep_state.specs.declared.sweep.Sweep.{Sweep}
 use Rattle.sweep_state.specs.declared.task.Task.{Task}
 use Rattle.sweep_step.specs.code.Multiply.{Context}
-use Rattle.sweep_turn.proofs.ScanModel.{SameLengths, lengths_then}
+use Rattle.sweep_turn.proofs.ScanModel.{asked-as, asked-same}
 use Rattle.sweep_turn.specs.code.Turn.{Goes, OpenIn, OpenOn, Opens, RestIn, RestOn, first_context, gone, opened_by}
-use Rattle.sweep_turn.specs.declared.visit.Going.TheVariants.{Ended, On}
-use Rattle.sweep_turn.specs.declared.visit.Going.{Going}
 use lib.ListN.{length}
 use mathlib.Core.Bool.{true}
 use mathlib.Core.List.{List}
@@ -58,12 +58,12 @@ module _ {t : Task} {x : Context} {used steps : ℕ} {b : Workspace} (o : RestOn
 
   -- What is picked is the model's pick.
   pick-model :
-      {q : Picked} → q ≡ least_from b.arrays.stages b.arrays.diagrams 0 t.count
+      {q : Option ℕ} → q ≡ least_from b.arrays.stages b.arrays.diagrams 0 t.count
       → pick_from (posed t x.functions) 0 (state_on t b used steps).stages ≡ twin_of q
   pick-model e = sym (ap twin_of e ∙ pick_models (posed t x.functions) b.arrays.stages b.arrays.diagrams t.count sized)
 
   -- Vertex v is picked.
-  module _ (v : ℕ) (e : least_from b.arrays.stages b.arrays.diagrams 0 t.count ≡ At v) where
+  module _ (v : ℕ) (e : least_from b.arrays.stages b.arrays.diagrams 0 t.count ≡ Some v) where
     -- It waits, and is one of the vertices.
     least : Least b.arrays.stages 0 t.count v
     least = least-is b.arrays.stages b.arrays.diagrams t.count 0 v e
@@ -99,82 +99,85 @@ module _ {t : Task} {x : Context} {used steps : ℕ} {b : Workspace} (o : RestOn
         rw one-turn
         (go-turns (posed t x.functions) (left_after t x v used steps b).turns (state_on t b used steps) v (pick-model (sym e)))
 
--- What the loop keeps: the last scan has come to its end, the model goes on as it went at first, and the lengths are those at first.
-pub record Turning (t : Task) (used₀ steps₀ : ℕ) (b₀ : Workspace) (look₀ : List ℕ) (used steps : ℕ) (b : Workspace) (look : List ℕ) : Type 0 where
-  pub here : (x : Context) → RestOn t x used₀ steps₀ b₀ → RestOn t (now_left t x used steps b) used steps b
-  pub ahead : (x : Context) → RestOn t x used₀ steps₀ b₀ → gone_from t x used steps b ≡ gone t x used₀ steps₀ b₀
-  pub same : SameLengths b₀ b
-  pub same-look : length look ≡ length look₀
+-- What the loop keeps: the last scan has come to its end, and the model goes on as it went at first.
+pub record Turning (a s : Sweep) : Type 0 where
+  pub kept : Kept a s
+  pub here : (x : Context) → RestOn a.task x a.used a.steps (lent a) → RestOn a.task (now_left a.task x s.used s.steps (lent s)) s.used s.steps (lent s)
+  pub ahead : (x : Context) → RestOn a.task x a.used a.steps (lent a)
+      → gone_from a.task x s.used s.steps (lent s) ≡ gone a.task x a.used a.steps (lent a)
 
 -- It holds at first.
-pub turns-begin : {t : Task} {used steps : ℕ} {b : Workspace} {look : List ℕ} → Turning t used steps b look used steps b look
-turns-begin =
-    record {
-      here = λ x o. rests_now o;
-      ahead = λ x o. sym (any_bound o);
-      same = record { pairs = refl; diagrams = refl; stages = refl; rows = refl; marks = refl };
-      same-look = refl;
-    }
+pub turns-begin : {a : Sweep} → Turning a a
+turns-begin = record { kept = kept-same; here = λ x o. rests_now o; ahead = λ x o. sym (any_bound o) }
 
-module _
-    {t : Task} {used₀ steps₀ : ℕ} {b₀ : Workspace} {look₀ : List ℕ} {used steps : ℕ} {b : Workspace} {look : List ℕ}
-    (s : Turning t used₀ steps₀ b₀ look₀ used steps b look) where
+module _ {a s : Sweep} (k : Turning a s) where
   -- The pick has its words.
-  pub pick_asks : RestIn t used₀ steps₀ b₀ → (2 * t.count ≤ length b.arrays.stages) × (2 * t.count ≤ length b.arrays.diagrams)
-  pick_asks i = let r = (s.here i.context i.on).represents in (r.stages-long, r.diagrams-long)
+  pub pick_asks : RestIn a → (2 * s.task.count ≤ length s.stages.now) × (2 * s.task.count ≤ length s.diagrams.now)
+  pick_asks i =
+      let r = (k.here i.context i.on).represents in
+      subst (λ (z : Sweep). (2 * z.task.count ≤ length z.stages.now) × (2 * z.task.count ≤ length z.diagrams.now)) (asked-same k.kept)
+      (r.stages-long, r.diagrams-long)
 
-  module _ {v : ℕ} {q : Picked} (f : q ≡ At v) (e : q ≡ least_from b.arrays.stages b.arrays.diagrams 0 t.count) where
+  -- What is picked, by the task at first.
+  least-first : {q : Option ℕ} → q ≡ least_from s.stages.now s.diagrams.now 0 s.task.count → q ≡ least_from s.stages.now s.diagrams.now 0 a.task.count
+  least-first e = e ∙ ap (λ (t : Task). least_from s.stages.now s.diagrams.now 0 t.count) k.kept.task
+
+  module _ {v : ℕ} {q : Option ℕ} (f : q ≡ Some v) (e : q ≡ least_from s.stages.now s.diagrams.now 0 s.task.count) where
+    picked : least_from s.stages.now s.diagrams.now 0 a.task.count ≡ Some v
+    picked = sym (least-first e) ∙ f
+
     -- The picked vertex can open.
-    pub turn-asks : RestIn t used₀ steps₀ b₀ → OpenIn t v used steps b
-    turn-asks i = record { context = _; on = picked_opens (s.here i.context i.on) v (sym e ∙ f) }
+    pub turn-asks : RestIn a → OpenIn v s
+    turn-asks i = subst (OpenIn v) (asked-same k.kept) (record { context = _; on = picked_opens (k.here i.context i.on) v picked })
 
-    module _ (after : Workspace) {g : Going} (opens : Opens t v used steps b after g) where
-      module _ {u k : ℕ} (h : g ≡ On u k) where
+    module _ (after : Sweep) where
+      -- The turn, as of the task at first.
+      opens-first : (g : Result (Unit {0}) Ended) → Opens v s after g → Opens v (asked-as a s) after g
+      opens-first g opens = subst (λ (z : Sweep). Opens v z after g) (sym (asked-same k.kept)) opens
+
+      module _ (opens : Opens v s after (Ok tt)) where
         -- Fewer turns are left.
-        pub turns_fall : RestIn t used₀ steps₀ b₀ → turns_left (state_on t after u k).stages < turns_left (state_on t b used steps).stages
+        pub turns_fall : RestIn a
+            → turns_left (state_on a.task (lent after) after.used after.steps).stages < turns_left (state_on a.task (lent s) s.used s.steps).stages
         turns_fall i =
-            let o = s.here i.context i.on in
-            let r = subst (Opens t v used steps b after) h opens _ (picked_opens o v (sym e ∙ f)) in
-            omega (arith, one-turn o v (sym e ∙ f), r.rests.scanning.budget)
+            let o = k.here i.context i.on in
+            let r = opens-first (Ok tt) opens _ (picked_opens o v picked) in
+            omega (arith, one-turn o v picked, r.rests.scanning.budget)
 
         -- It holds after the turn.
-        pub turns-go-on :
-            (last : List ℕ) → SameLengths b after → length last ≡ length look → Turning t used₀ steps₀ b₀ look₀ u k after last
+        pub turns-go-on : Kept s after → Turning a after
         unfolding and_then
-        turns-go-on last same same-look =
+        turns-go-on kept =
             record {
-              here = λ x o.
-                  rests_now (subst (Opens t v used steps b after) h opens _ (picked_opens (s.here x o) v (sym e ∙ f))).rests;
+              kept = kept-then k.kept kept;
+              here = λ x o. rests_now (opens-first (Ok tt) opens _ (picked_opens (k.here x o) v picked)).rests;
               ahead = λ x o.
-                  let r = subst (Opens t v used steps b after) h opens _ (picked_opens (s.here x o) v (sym e ∙ f)) in
+                  let r = opens-first (Ok tt) opens _ (picked_opens (k.here x o) v picked) in
                   sym (any_bound r.rests)
-                  ∙ ap (λ (p : Progress). and_then p (go_for (posed t x.functions) (left_after t x v used steps b).turns)) (sym r.reached)
-                  ∙ sym (turn-first (s.here x o) v (sym e ∙ f)) ∙ s.ahead x o;
-              same = lengths_then s.same same;
-              same-look = same-look ∙ s.same-look;
+                  ∙ ap (λ (p : Progress). and_then p (go_for (posed a.task x.functions) (left_after a.task x v s.used s.steps (lent s)).turns)) (sym r.reached)
+                  ∙ sym (turn-first (k.here x o) v picked) ∙ k.ahead x o;
             }
 
       -- The turn ended the sweep.
-      pub turns_stop : {n : result.Ended} → g ≡ Ended n → Goes t used₀ steps₀ b₀ after (Ended n)
+      pub turns_stop : (n : Ended) → Opens v s after (Err n) → Goes a after (Err n)
       unfolding and_then
-      turns_stop h = λ x o.
-          let r = subst (Opens t v used steps b after) h opens _ (picked_opens (s.here x o) v (sym e ∙ f)) in
+      turns_stop n opens = λ x o.
+          let r = opens-first (Err n) opens _ (picked_opens (k.here x o) v picked) in
           record {
             reached =
-                sym (s.ahead x o) ∙ turn-first (s.here x o) v (sym e ∙ f)
-                ∙ ap (λ (p : Progress). and_then p (go_for (posed t x.functions) (left_after t x v used steps b).turns)) r.reached;
+                sym (k.ahead x o) ∙ turn-first (k.here x o) v picked
+                ∙ ap (λ (p : Progress). and_then p (go_for (posed a.task x.functions) (left_after a.task x v s.used s.steps (lent s)).turns)) r.reached;
             closed = r.closed;
           }
 
   -- None waits.
-  pub turns-end :
-      {q : Picked} → q ≡ None → q ≡ least_from b.arrays.stages b.arrays.diagrams 0 t.count → Goes t used₀ steps₀ b₀ b (On used steps)
+  pub turns-end : {q : Option ℕ} → q ≡ None → q ≡ least_from s.stages.now s.diagrams.now 0 s.task.count → Goes a s (Ok tt)
   unfolding go
   turns-end f e = λ x o.
       record {
         reached =
-            sym (s.ahead x o)
-            ∙ go_stops (posed t x.functions) (turns_left (state_on t b used steps).stages) (state_on t b used steps)
-            (pick-model (s.here x o) (sym f ∙ e));
-        represents = (s.here x o).represents;
+            sym (k.ahead x o)
+            ∙ go_stops (posed a.task x.functions) (turns_left (state_on a.task (lent s) s.used s.steps).stages) (state_on a.task (lent s) s.used s.steps)
+            (pick-model (k.here x o) (sym f ∙ least-first e));
+        represents = (k.here x o).represents;
       }

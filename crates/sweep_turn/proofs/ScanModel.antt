@@ -1,17 +1,17 @@
 -- The loop of a scan: what follows is what followed from its first vertex.
 use Prim.Native.Nat.{◌+◌, ◌-◌, ◌<◌, ◌≤◌, suc, ℕ}
+use Rattle.std.specs.Prelude.{Err, Ok, Result}
 use Rattle.sweep_model.specs.Sweep.{Progress, and_then, scan_from}
 use Rattle.sweep_state.specs.code.Meet.{Workspace}
 use Rattle.sweep_state.specs.code.Words.{posed}
-use Rattle.sweep_state.specs.declared.end.Ended as result
+use Rattle.sweep_state.proofs.LongLaws.{kept-same, kept-then, lengths-then}
+use Rattle.sweep_state.specs.code.Sweep.{Kept, SameLengths, lent}
+use Rattle.sweep_state.specs.declared.end.Ended.{Ended}
+use Rattle.sweep_state.specs.declared.sweep.Sweep.{Sweep}
 use Rattle.sweep_state.specs.declared.task.Task.{Task}
 use Rattle.sweep_step.specs.code.Multiply.{Context}
 use Rattle.sweep_turn.specs.code.Scan.{Scans, scanned_from}
 use Rattle.sweep_turn.specs.code.Visit.{ScanIn, ScanOn, Visits, visited}
-use Rattle.sweep_turn.specs.declared.visit.Going.TheVariants.{Ended, On}
-use Rattle.sweep_turn.specs.declared.visit.Going.{Going}
-use lib.ListN.{length}
-use mathlib.Core.List.{List}
 use mathlib.Core.Path.{◌∙◌, ◌≡◌, ap, refl, subst, sym}
 use native.Mathlib.Numerals.{add-one}
 use native.Mathlib.Omega.{arith}
@@ -23,84 +23,68 @@ scan-turn :
 unfolding scan_from
 scan-turn t x v used steps b h = let e : t.count - v ≡ suc (t.count - suc v) = omega arith in rw e refl
 
--- Two workspaces with as many words.
-pub record SameLengths (b c : Workspace) : Type 0 where
-  pub pairs : length c.pairs ≡ length b.pairs
-  pub diagrams : length c.arrays.diagrams ≡ length b.arrays.diagrams
-  pub stages : length c.arrays.stages ≡ length b.arrays.stages
-  pub rows : length c.arrays.rows ≡ length b.arrays.rows
-  pub marks : length c.arrays.marks ≡ length b.arrays.marks
-
+-- Lengths that stay, stay over two steps.
 pub lengths_then : {b c d : Workspace} → SameLengths b c → SameLengths c d → SameLengths b d
-lengths_then s t =
-    record {
-      pairs = t.pairs ∙ s.pairs;
-      diagrams = t.diagrams ∙ s.diagrams;
-      stages = t.stages ∙ s.stages;
-      rows = t.rows ∙ s.rows;
-      marks = t.marks ∙ s.marks;
-    }
+lengths_then s t = lengths-then s t
 
-pub record Scanned (t : Task) (from used₀ steps₀ : ℕ) (b₀ : Workspace) (look₀ : List ℕ) (v used steps : ℕ) (b : Workspace) (look : List ℕ) : Type 0 where
-  pub to : v ≤ t.count
-  pub here : (x : Context) → ScanOn t x from used₀ steps₀ b₀ → ScanOn t x v used steps b
-  pub ahead : (x : Context) → ScanOn t x from used₀ steps₀ b₀ → scanned_from t x v used steps b ≡ scanned_from t x from used₀ steps₀ b₀
-  pub same : SameLengths b₀ b
-  pub same-look : length look ≡ length look₀
+-- A sweep with the task that it had at first.
+abbrev pub asked-as : Sweep → Sweep → Sweep
+asked-as a s = record s { task = a.task }
 
-pub scan_begins :
-    {t : Task} {from used steps : ℕ} {b : Workspace} {look : List ℕ} → from ≤ t.count → Scanned t from used steps b look from used steps b look
-scan_begins h =
-    record {
-      to = h;
-      here = λ x o. o;
-      ahead = λ x o. refl;
-      same = record { pairs = refl; diagrams = refl; stages = refl; rows = refl; marks = refl };
-      same-look = refl;
-    }
+pub asked-same : {a s : Sweep} → Kept a s → asked-as a s ≡ s
+asked-same {s = s} k = ap (λ (t : Task). record s { task = t }) (sym k.task)
 
-module _
-    {t : Task} {from used₀ steps₀ : ℕ} {b₀ : Workspace} {look₀ : List ℕ} {v used steps : ℕ} {b : Workspace} {look : List ℕ}
-    (s : Scanned t from used₀ steps₀ b₀ look₀ v used steps b look) where
-  pub scan-asks : ScanIn t from used₀ steps₀ b₀ → ScanIn t v used steps b
-  scan-asks i = record { context = i.context; here = s.here i.context i.here }
+-- What the loop keeps: the scan has come to vertex v, and the model goes on from there as from the first.
+pub record Scanned (from : ℕ) (a : Sweep) (v : ℕ) (s : Sweep) : Type 0 where
+  pub to : v ≤ a.task.count
+  pub kept : Kept a s
+  pub here : (x : Context) → ScanOn a.task x from a.used a.steps (lent a) → ScanOn a.task x v s.used s.steps (lent s)
+  pub ahead : (x : Context) → ScanOn a.task x from a.used a.steps (lent a)
+      → scanned_from a.task x v s.used s.steps (lent s) ≡ scanned_from a.task x from a.used a.steps (lent a)
 
-  pub scan-goes-on :
-      (after : Workspace) (last : List ℕ) {g : Going} {u k : ℕ} → v < t.count → g ≡ On u k → Visits t v used steps b after g → SameLengths b after
-      → length last ≡ length look → Scanned t from used₀ steps₀ b₀ look₀ (v + 1) u k after last
+pub scan_begins : {from : ℕ} {a : Sweep} → from ≤ a.task.count → Scanned from a from a
+scan_begins h = record { to = h; kept = kept-same; here = λ x o. o; ahead = λ x o. refl }
+
+module _ {from : ℕ} {a : Sweep} {v : ℕ} {s : Sweep} (k : Scanned from a v s) where
+  pub scan-asks : ScanIn from a → ScanIn v s
+  scan-asks i = subst (ScanIn v) (asked-same k.kept) (record { context = i.context; here = k.here i.context i.here })
+
+  -- A visit, as of the task at first.
+  visits-first : (after : Sweep) (g : Result (Unit {0}) Ended) → Visits v s after g → Visits v (asked-as a s) after g
+  visits-first after g visits = subst (λ (z : Sweep). Visits v z after g) (sym (asked-same k.kept)) visits
+
+  pub scan-goes-on : (after : Sweep) → v < a.task.count → Visits v s after (Ok tt) → Kept s after → Scanned from a (v + 1) after
   unfolding and_then
-  scan-goes-on after last {u = u} {k = k} h e visits same same-look =
-      let went = subst (Visits t v used steps b after) e visits in
+  scan-goes-on after h visits kept =
+      let went = visits-first after (Ok tt) visits in
+      let all = kept-then k.kept kept in
       rw (add-one v)
       (record {
         to = h;
-        here = λ x o. (went x (s.here x o)).here;
+        kept = all;
+        here = λ x o. (went x (k.here x o)).here;
         ahead = λ x o.
-            ap (λ (p : Progress). and_then p (scan_from (posed t x.functions) (suc v) (t.count - suc v))) (sym (went x (s.here x o)).reached)
-            ∙ sym (scan-turn t x v used steps b h) ∙ s.ahead x o;
-        same = lengths_then s.same same;
-        same-look = same-look ∙ s.same-look;
+            ap (λ (p : Progress). and_then p (scan_from (posed a.task x.functions) (suc v) (a.task.count - suc v))) (sym (went x (k.here x o)).reached)
+            ∙ sym (scan-turn a.task x v s.used s.steps (lent s) h) ∙ k.ahead x o;
       })
 
-  pub scan-stops :
-      (after : Workspace) {g : Going} {r : result.Ended} → v < t.count → g ≡ Ended r → Visits t v used steps b after g
-      → Scans t from used₀ steps₀ b₀ after (Ended r)
+  pub scan-stops : (after : Sweep) (r : Ended) → v < a.task.count → Visits v s after (Err r) → Scans from a after (Err r)
   unfolding and_then
-  scan-stops after h e visits = λ x o.
-      let ended = subst (Visits t v used steps b after) e visits x (s.here x o) in
+  scan-stops after r h visits = λ x o.
+      let ended = visits-first after (Err r) visits x (k.here x o) in
       record {
         reached =
-            sym (s.ahead x o) ∙ scan-turn t x v used steps b h
-            ∙ ap (λ (p : Progress). and_then p (scan_from (posed t x.functions) (suc v) (t.count - suc v))) ended.reached;
+            sym (k.ahead x o) ∙ scan-turn a.task x v s.used s.steps (lent s) h
+            ∙ ap (λ (p : Progress). and_then p (scan_from (posed a.task x.functions) (suc v) (a.task.count - suc v))) ended.reached;
         closed = ended.closed;
       }
 
-  pub scan-ends : t.count ≤ v → Scans t from used₀ steps₀ b₀ b (On used steps)
+  pub scan-ends : a.task.count ≤ v → Scans from a s (Ok tt)
   unfolding scan_from
   scan-ends h = λ x o.
-      let e : v ≡ t.count = omega (arith, s.to) in
-      let none : t.count - v ≡ 0 = omega arith in
+      let e : v ≡ a.task.count = omega (arith, k.to) in
+      let none : a.task.count - v ≡ 0 = omega arith in
       record {
-        reached = sym (s.ahead x o) ∙ rw none refl;
-        here = subst (λ (n : ℕ). ScanOn t x n used steps b) e (s.here x o);
+        reached = sym (k.ahead x o) ∙ rw none refl;
+        here = subst (λ (n : ℕ). ScanOn a.task x n s.used s.steps (lent s)) e (k.here x o);
       }

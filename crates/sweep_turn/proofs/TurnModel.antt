@@ -1,5 +1,6 @@
 -- A turn: a vertex opens, and the scan that follows is the model's.
 use Prim.Native.Nat.{◌+◌, ◌-◌, suc, ℕ}
+use Rattle.std.specs.Prelude.{Err, Ok, Result}
 use Rattle.sweep_graph.proofs.StageLaws.{stages_length}
 use Rattle.sweep_graph.specs.code.Stages.{with_stage}
 use Rattle.sweep_model.proofs.Steady.{opened_at, scanning-opened}
@@ -10,20 +11,21 @@ use Rattle.sweep_state.specs.code.Meet.{Workspace, workspace}
 use Rattle.sweep_state.specs.code.Settle.{state_on}
 use Rattle.sweep_state.specs.code.Arrays.{arrays}
 use Rattle.sweep_state.specs.code.Words.{posed}
+use Rattle.sweep_state.specs.code.Sweep.{put_stages}
+use Rattle.sweep_state.specs.declared.end.Ended.{Ended}
+use Rattle.sweep_state.specs.declared.sweep.Sweep.{Sweep}
 use Rattle.sweep_state.specs.declared.task.Task.{Task}
 use Rattle.sweep_step.specs.code.Multiply.{Context}
 use Rattle.sweep_turn.proofs.OpenModel.{opened-represents, opened-state}
 use Rattle.sweep_turn.specs.code.Scan.{Scans, scanned_from}
 use Rattle.sweep_turn.specs.code.Turn.{OpenIn, OpenOn, Opens, opened_by}
 use Rattle.sweep_turn.specs.code.Visit.{ScanIn, ScanOn}
-use Rattle.sweep_turn.specs.declared.visit.Going.TheVariants.{Ended, On}
-use Rattle.sweep_turn.specs.declared.visit.Going.{Going}
 use mathlib.Core.List.{List}
 use mathlib.Core.Path.{◌∙◌, ◌≡◌, ap₂, subst, sym}
 use native.Mathlib.Numerals.{add-one}
 
 -- The workspace with other stages.
-abbrev on_stages : List ℕ → Workspace → Workspace
+abbrev pub on_stages : List ℕ → Workspace → Workspace
 on_stages stages b = workspace b.pairs (arrays b.arrays.diagrams stages b.arrays.rows b.arrays.marks)
 
 -- The workspace on which v has opened.
@@ -53,24 +55,25 @@ module _ {t : Task} {x : Context} {v used steps : ℕ} {b : Workspace} (o : Open
   open_follows =
       ap₂ (λ (n : ℕ) (s : State). scan_from (posed t x.functions) (suc v) (n - suc v) s) (stages_length b.arrays.stages t.count) (sym same-state)
 
+-- The sweep in which v has opened.
+abbrev pub opened : ℕ → Sweep → Sweep
+opened v s = put_stages (with_stage s.stages.now v 2) s
+
 -- A vertex that waits is opened: the scan that follows can begin.
-pub open-asks :
-    {t : Task} {v used steps : ℕ} (b : Workspace) {stages : List ℕ} → stages ≡ with_stage b.arrays.stages v 2 → OpenIn t v used steps b
-    → ScanIn t (v + 1) used steps (on_stages stages b)
-open-asks b e i = rw (e, add-one) (record { context = i.context; here = open_scans i.on })
+pub open-asks : (v : ℕ) (s : Sweep) → OpenIn v s → ScanIn (v + 1) (opened v s)
+open-asks v s i = rw (add-one v) (record { context = i.context; here = open_scans i.on })
 
-module _ (t : Task) (v used steps : ℕ) (b : Workspace) {stages : List ℕ} (e : stages ≡ with_stage b.arrays.stages v 2) (after : Workspace) where
-  -- The scan, on that workspace and from the next vertex.
-  scans_opened : (g : Going) → Scans t (v + 1) used steps (on_stages stages b) after g → Scans t (suc v) used steps (opened_workspace v b) after g
-  scans_opened g s =
-      subst (λ (n : ℕ). Scans t n used steps (opened_workspace v b) after g) (add-one v)
-      (subst (λ (l : List ℕ). Scans t (v + 1) used steps (on_stages l b) after g) e s)
+-- The scan, on the stages in which v has opened and from the next vertex.
+pub scans_opened : (v : ℕ) (s after : Sweep) {stages : List ℕ} → stages ≡ with_stage s.stages.now v 2 → (g : Result (Unit {0}) Ended)
+    → Scans (v + 1) (put_stages stages s) after g → Scans (suc v) (opened v s) after g
+scans_opened v s after e g scanned =
+    subst (λ (n : ℕ). Scans n (opened v s) after g) (add-one v) (subst (λ (l : List ℕ). Scans (v + 1) (put_stages l s) after g) e scanned)
 
-  -- What the scan reached is what the turn reached.
-  pub open-ends : (g : Going) → Scans t (v + 1) used steps (on_stages stages b) after g → Opens t v used steps b after g
-  open-ends (On more taken) s = λ x o.
-      let r = scans_opened (On more taken) s x (open_scans o) in
-      record { reached = open_follows o ∙ r.reached; rests = r.here }
-  open-ends (Ended f) s = λ x o.
-      let r = scans_opened (Ended f) s x (open_scans o) in
-      record { reached = open_follows o ∙ r.reached; closed = r.closed }
+-- What the scan reached is what the turn reached.
+pub open-ends : (v : ℕ) (s after : Sweep) (g : Result (Unit {0}) Ended) → Scans (v + 1) (opened v s) after g → Opens v s after g
+open-ends v s after (Ok _) scanned = λ x o.
+    let r = subst (λ (n : ℕ). Scans n (opened v s) after (Ok tt)) (add-one v) scanned x (open_scans o) in
+    record { reached = open_follows o ∙ r.reached; rests = r.here }
+open-ends v s after (Err f) scanned = λ x o.
+    let r = subst (λ (n : ℕ). Scans n (opened v s) after (Err f)) (add-one v) scanned x (open_scans o) in
+    record { reached = open_follows o ∙ r.reached; closed = r.closed }

@@ -1,5 +1,6 @@
 -- A visit, as the model makes it.
 use Prim.Native.Nat.{◌*◌, ◌<◌, ◌≤◌, suc, ℕ}
+use Rattle.std.specs.Prelude.{Err, None, Ok, Option, Result, Some}
 use Rattle.aig.specs.Literal.{vertex_of}
 use Rattle.aig.specs.Lookup.{first_word, second_word}
 use Rattle.sweep_graph.proofs.StageLaws.{stage_at}
@@ -11,25 +12,18 @@ use Rattle.sweep_model.specs.Fit.{Downward, Fit, vertex_count}
 use Rattle.sweep_model.specs.State.{Problem, State, bare?, open?, stage_of}
 use Rattle.sweep_model.specs.code.Steady.{Scanning, Steady}
 use Rattle.sweep_model.specs.Sweep.{on, ready?, visit}
-use Rattle.sweep_model.specs.declared.Cause.TheVariants.{Rows, Steps}
-use Rattle.sweep_state.specs.code.Ending.{Ends, ended_with}
 use Rattle.sweep_state.specs.code.Look.{progress_of}
 use Rattle.sweep_state.specs.code.Meet.{Workspace}
 use Rattle.sweep_state.specs.code.Settle.{state_on}
 use Rattle.sweep_state.specs.code.Words.{posed}
-use Rattle.sweep_state.specs.declared.end.End.TheVariants.{Undecided}
 use Rattle.sweep_state.specs.declared.end.End.{End}
-use Rattle.sweep_state.specs.declared.end.Ended as result
-use Rattle.sweep_state.specs.declared.end.Seen.TheVariants.{Decided, Nothing}
-use Rattle.sweep_state.specs.declared.end.Seen.{Seen}
+use Rattle.sweep_state.specs.code.Sweep.{lent}
+use Rattle.sweep_state.specs.declared.end.Ended.{Ended}
+use Rattle.sweep_state.specs.declared.sweep.Sweep.{Sweep}
 use Rattle.sweep_state.specs.declared.task.Task.{Task}
-use Rattle.sweep_step.specs.code.Multiply.{Context, DueOn, Takes, multiplied}
-use Rattle.sweep_step.specs.declared.multiply.Step.TheVariants as step
-use Rattle.sweep_step.specs.declared.multiply.Step.{Step}
+use Rattle.sweep_step.specs.code.Multiply.{Context, DueIn, DueOn, Takes, multiplied}
 use Rattle.sweep_turn.proofs.EndModel.{looked-ends}
-use Rattle.sweep_turn.specs.code.Visit.{ReadyAsked, ScanOn, Visits, WentOn, going_by, going_of, open_word, ready_at, visited}
-use Rattle.sweep_turn.specs.declared.visit.Going.TheVariants.{Ended}
-use Rattle.sweep_turn.specs.declared.visit.Going.{Going}
+use Rattle.sweep_turn.specs.code.Visit.{ReadyAsked, ScanIn, ScanOn, Visits, going_by, open_word, ready_at, visited}
 use Rattle.truth.proofs.Booleans.{and_left, and_right}
 use borrow.Author.Tests.{le-leb, leb-true, lt-leb}
 use lib.Dec.{leb}
@@ -133,50 +127,53 @@ module _ (t : Task) (v : ℕ) (pairs stages : List ℕ) where
       unfolding ready_at
       ready-open e er ed = rw (le-leb t.first v made, ← es, ← ea, is-bare, ← el, ← ec, e, ← er, ← ed) refl
 
-module _ (t : Task) (v used steps : ℕ) (b : Workspace) (inside : v < t.count) {r : Bool} (er : r ≡ ready_at t v b.pairs b.arrays.stages) where
+-- What a visit comes to, by what its product came to.
+abbrev pub going_of : Sweep → Result (Option End) Ended → Result (Unit {0}) Ended
+going_of after (Ok seen) = going_by seen after.used after.steps
+going_of after (Err i) = Err i
+
+module _ (v : ℕ) (s : Sweep) (inside : v < s.task.count) {r : Bool} (er : r ≡ ready_at s.task v s.pairs.now s.stages.now) where
   -- A vertex that is ready has its product taken.
-  visit-product : r ≡ true → {x : Context} → ScanOn t x v used steps b → visited t x v used steps b ≡ multiplied t x v used steps b
+  visit-product :
+      r ≡ true → {x : Context} → ScanOn s.task x v s.used s.steps (lent s)
+      → visited s.task x v s.used s.steps (lent s) ≡ multiplied s.task x v s.used s.steps (lent s)
   visit-product e h = visit-ready h inside (sym er ∙ e)
 
-  -- What was seen ends the sweep.
-  visit-seen :
-      r ≡ true → (after : Workspace) (s : Seen) (u k : ℕ) {i : End} → going_by s u k ≡ Ended (ended_with i u k 0) → Takes t v used steps b after (step.Looked s u k)
-      → (x : Context) → ScanOn t x v used steps b → Ends t x.functions (visited t x v used steps b) after (ended_with i u k 0)
-  visit-seen e after s u k i took x h =
-      let l = took x (ready-due h inside er e) in
-      looked-ends s l.represents (visit-product e h ∙ l.reached) l.refers i
+  pub visit-due : r ≡ true → ScanIn v s → DueIn v s
+  visit-due e i = record { context = i.context; on = ready-due i.here inside er e }
 
-  -- A limit ends it.
-  visit-short :
-      r ≡ true → (after : Workspace) (i : result.Ended)
-      → ((x : Context) → DueOn t x v used steps b → Ends t x.functions (multiplied t x v used steps b) after i)
-      → (x : Context) → ScanOn t x v used steps b → Ends t x.functions (visited t x v used steps b) after i
-  visit-short e after i took x h =
-      let l = took x (ready-due h inside er e) in
-      record { reached = visit-product e h ∙ l.reached; closed = l.closed }
-
-  visit_takes : r ≡ true → (after : Workspace) (o : Step) → Takes t v used steps b after o → Visits t v used steps b after (going_of v o)
+  -- What was seen ends the sweep, or it goes on.
+  pub visit-seen : r ≡ true → (after : Sweep) (seen : Option End) → Takes v s after (Ok seen) → Visits v s after (going_by seen after.used after.steps)
   unfolding progress_of
-  visit_takes e after (step.Looked (Decided i) u k) took = visit-seen e after (Decided i) u k refl took
-  visit_takes e after (step.Looked Nothing u k) took = λ x h.
+  visit-seen e after (Some i) took = λ x h.
+      let l = took x (ready-due h inside er e) in
+      looked-ends (Some i) l.represents (visit-product e h ∙ l.reached) l.refers refl
+  visit-seen e after None took = λ x h.
       let l = took x (ready-due h inside er e) in
       let i = visit-product e h ∙ l.reached in
       record { reached = i; here = record { represents = l.represents; scanning = scan-next h inside i } }
-  visit_takes e after (step.Rows u k n) took = visit-short e after (ended_with (Undecided (Rows v)) u k n) took
-  visit_takes e after (step.Steps u k n) took = visit-short e after (ended_with (Undecided (Steps v)) u k n) took
 
-  pub visit-went :
-      r ≡ true → (after : Workspace) (o : Step) {g : Going} → g ≡ going_of v o → Takes t v used steps b after o → Visits t v used steps b after g
-  visit-went e after o eg took = subst (Visits t v used steps b after) (sym eg) (visit_takes e after o took)
+  -- A limit ends it.
+  pub visit-short : r ≡ true → (after : Sweep) {i : Ended} → Takes v s after (Err i) → Visits v s after (Err i)
+  visit-short e after took = λ x h.
+      let l = took x (ready-due h inside er e) in
+      record { reached = visit-product e h ∙ l.reached; closed = l.closed }
+
+  -- So it is for each answer of the product.
+  pub visit_takes : r ≡ true → (after : Sweep) (o : Result (Option End) Ended) → Takes v s after o → Visits v s after (going_of after o)
+  visit_takes e after (Ok seen) took = visit-seen e after seen took
+  visit_takes e after (Err i) took = visit-short e after took
 
   -- Another is passed.
-  pub visit-passes : r ≡ false → (x : Context) → ScanOn t x v used steps b → WentOn t x v used steps b b used steps
+  pub visit-passes : r ≡ false → Visits v s s (Ok tt)
   unfolding visit
-  visit-passes e x h =
+  visit-passes e = λ x h.
       record {
-        reached = ap (λ (c : Bool). elim c [ true ↦ multiplied t x v used steps b | false ↦ on (state_on t b used steps) ]) (ready_models h inside ∙ sym er ∙ e);
+        reached =
+            ap (λ (c : Bool). elim c [ true ↦ multiplied s.task x v s.used s.steps (lent s) | false ↦ on (state_on s.task (lent s) s.used s.steps) ])
+            (ready_models h inside ∙ sym er ∙ e);
         here = record {
           represents = h.represents;
-          scanning = scanning-passed x.turns v (state_on t b used steps) (omega (arith, h.represents.count)) h.scanning;
+          scanning = scanning-passed x.turns v (state_on s.task (lent s) s.used s.steps) (omega (arith, h.represents.count)) h.scanning;
         };
       }

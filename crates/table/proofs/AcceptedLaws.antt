@@ -1,17 +1,17 @@
 -- Tests 10 and 11 against what they say of the words.
+use Rattle.std.proofs.lemmas.Grind.{common_steps}
 use Prim.Native.Nat.{◌*◌, ◌+◌, ◌<◌, suc, zero, ℕ}
 use Rattle.table.proofs.LayoutLaws.{length_output_words, length_rows, row_at_lem, side-output-word, side_start-bound}
 use Rattle.table.proofs.RefusalLaws.{none-applies}
 use Rattle.table.specs.Accepted.{Accepted, Downward, RowBelow, WellFormed}
-use Rattle.table.specs.Limits.{max_ands, max_inputs, max_outputs}
 use Rattle.table.specs.Refusals.{first_refusal}
-use Rattle.table.specs.Table.{all_below?, beyond_limits?, constraint_of, downward?, inputs_of, made_of, malformed?, out_of_order?, output_words, outputs_of, promised, row_at, row_below?, rows_of, side_outputs, side_start, table_tests, vertices_of}
+use Rattle.table.specs.Table.{all_below?, beyond_limits?, constraint_of, downward?, inputs_of, made_of, malformed?, out_of_order?, output_words, outputs_of, row_at, row_below?, rows_of, side_outputs, side_start, table_tests, vertices_of}
 use Rattle.table.specs.Values.{Pair}
-use Rattle.truth.proofs.Booleans.{and_left, and_right, neither}
-use borrow.Author.Tests.{eqb-false, le-ltb, lt-ltb, ltb-false, ltb-true, ne_eqb, not-false}
-use lib.Dec.{eqb, ltb}
+use Rattle.truth.proofs.Booleans.{and_left, and_right}
+use borrow.Author.Tests.{lt-ltb, ltb-true, not-false}
+use lib.Dec.{ltb}
 use lib.ListN.{get_or, length}
-use mathlib.Core.Bool.{Bool, ◌&&◌, ◌||◌, false, true}
+use mathlib.Core.Bool.{Bool, ◌&&◌, false, true}
 use mathlib.Core.List.{List, [], ◌∷◌}
 use mathlib.Core.Path.{◌≡◌, refl, subst}
 use native.Mathlib.Omega.{arith}
@@ -19,11 +19,7 @@ use native.Mathlib.Omega.{arith}
 -- The test of a row, from the test to what it says and back.
 pub row_below : (n : ℕ) (r : Pair) → row_below? n r ≡ true → RowBelow n r
 unfolding row_below?
-row_below n r h =
-    record {
-      first = ltb-true r.0 n (and_left (ltb r.0 n) (ltb r.1 n) h);
-      second = ltb-true r.1 n (and_right (ltb r.0 n) (ltb r.1 n) h);
-    }
+row_below n r h = grind (arith, common_steps)
 
 pub below_row : (n : ℕ) (r : Pair) → RowBelow n r → row_below? n r ≡ true
 unfolding row_below?
@@ -61,28 +57,11 @@ all-below-tested n (r ∷ rs) h = rw (lt-ltb r n (h 0 (omega arith))) (all-below
 -- Test 10, from the test to what it says and back.
 pub well_formed : (ws : List ℕ) → malformed? ws ≡ false → WellFormed ws
 unfolding malformed? beyond_limits?
-well_formed ws h =
-    let p = neither (ltb (length ws) 3 || beyond_limits? (inputs_of ws) (made_of ws) (outputs_of ws)) (ltb (length ws) (promised (made_of ws) (outputs_of ws))) h in
-    let q = neither (ltb (length ws) 3) (beyond_limits? (inputs_of ws) (made_of ws) (outputs_of ws)) p.0 in
-    let o = neither (ltb max_inputs (inputs_of ws) || ltb max_ands (made_of ws) || eqb (outputs_of ws) 0) (ltb max_outputs (outputs_of ws)) q.1 in
-    let z = neither (ltb max_inputs (inputs_of ws) || ltb max_ands (made_of ws)) (eqb (outputs_of ws) 0) o.0 in
-    let i = neither (ltb max_inputs (inputs_of ws)) (ltb max_ands (made_of ws)) z.0 in
-    let some : (outputs_of ws ≡ 0 → ⊥) = eqb-false (outputs_of ws) 0 z.1 in
-    record {
-      header = ltb-false (length ws) 3 q.0;
-      inputs = ltb-false max_inputs (inputs_of ws) i.0;
-      made = ltb-false max_ands (made_of ws) i.1;
-      some-output = omega arith;
-      outputs = ltb-false max_outputs (outputs_of ws) o.1;
-      whole = ltb-false (length ws) (promised (made_of ws) (outputs_of ws)) p.1;
-    }
+well_formed ws h = grind (arith, common_steps)
 
 pub well_formed-tested : (ws : List ℕ) → WellFormed ws → malformed? ws ≡ false
 unfolding malformed? beyond_limits?
-well_formed-tested ws h =
-    let some : (outputs_of ws ≡ 0 → ⊥) = λ e. omega (arith, h.some-output) in
-    rw (le-ltb (length ws) 3 h.header, le-ltb max_inputs (inputs_of ws) h.inputs, le-ltb max_ands (made_of ws) h.made)
-    (rw (ne_eqb (outputs_of ws) 0 some, le-ltb max_outputs (outputs_of ws) h.outputs) (le-ltb (length ws) (promised (made_of ws) (outputs_of ws)) h.whole))
+well_formed-tested ws h = grind (arith, common_steps)
 
 -- Words to which neither 10 nor 11 applies are a well-formed table whose references are in order, and such a table is not refused.
 pub accepted : (ws : List ℕ) → first_refusal 0 (table_tests ws) ≡ 0 → Accepted ws

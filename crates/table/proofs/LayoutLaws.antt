@@ -1,11 +1,11 @@
 -- Where a table's rows and output references stand among its words.
+use Rattle.std.proofs.lemmas.Grind.{common_steps}
 use Prim.Native.Nat.{◌*◌, ◌+◌, ◌-◌, ◌<◌, ◌≤◌, suc, zero, ℕ}
 use Rattle.table.specs.Table.{graph_of, made_of, output_words, outputs, outputs_of, pairs, promised, row_at, rows_of, side_outputs, side_start}
 use Rattle.table.specs.Values.{Pair}
 use borrow.Author.Tests.{eq-eqb, ne_eqb}
 use lib.Dec.{eqb}
 use lib.ListN.{drop, get_or, length, length-drop, length-take, take}
-use lib.Seq.{drop-drop, get_or-drop, get_or-take}
 use mathlib.Core.Bool.{Bool, cond, false, true}
 use mathlib.Core.List.{List, [], ◌∷◌, map}
 use mathlib.Core.Path.{◌∙◌, ◌≡◌, ap, refl}
@@ -20,9 +20,7 @@ map_at f (x ∷ xs) (suc i) d e h = map_at f xs i d e (omega arith)
 -- The first of some rows is read off, and the others stand two words further.
 pub pairs_suc : (n at : ℕ) (ws : List ℕ) → pairs (suc n) (drop at ws) ≡ row_at ws at ∷ pairs n (drop (at + 2) ws)
 unfolding pairs
-pairs_suc n at ws =
-    rw (get_or-drop at ws 0 0, get_or-drop at ws 1 0, drop-drop 2 at ws)
-    (ap (λ (k : ℕ). (get_or ws k 0, get_or ws (at + 1) 0) ∷ pairs n (drop (at + 2) ws)) (omega arith))
+pairs_suc n at ws = grind (arith, common_steps)
 
 -- The same for the rows that are left after i of n.
 pub pairs-left : (at n i : ℕ) (ws : List ℕ) → i < n
@@ -59,7 +57,7 @@ module _ (ws : List ℕ) where
   -- The output references stand after the rows.
   pub output-word_at : (k : ℕ) → k < 2 * outputs_of ws → get_or (output_words ws) k 0 ≡ get_or ws (3 + 2 * made_of ws + k) 0
   unfolding output_words
-  output-word_at k h = get_or-take (2 * outputs_of ws) (drop (3 + 2 * made_of ws) ws) k 0 h ∙ get_or-drop (3 + 2 * made_of ws) ws k 0
+  output-word_at k h = grind (arith, common_steps)
 
   -- In a whole table they are twice as many as the header says.
   pub length_output_words : promised (made_of ws) (outputs_of ws) ≤ length ws → length (output_words ws) ≡ 2 * outputs_of ws
@@ -77,8 +75,7 @@ module _ (ws : List ℕ) where
   -- Output k of a side stands k words after the side's first.
   pub side-output-word : (side k : ℕ) → k < outputs_of ws → get_or (side_outputs ws side) k 0 ≡ get_or (output_words ws) (side_start ws side + k) 0
   unfolding side_outputs
-  side-output-word side k h =
-      get_or-take (outputs_of ws) (drop (side_start ws side) (output_words ws)) k 0 h ∙ get_or-drop (side_start ws side) (output_words ws) k 0
+  side-output-word side k h = grind (arith, common_steps)
 
   pub side-output-at : (side k : ℕ) → k < outputs_of ws → get_or (side_outputs ws side) k 0 ≡ get_or ws (3 + 2 * made_of ws + side_start ws side + k) 0
   side-output-at side k h =

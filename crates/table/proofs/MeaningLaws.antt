@@ -1,11 +1,13 @@
 -- The values of vertices over any domain: more rows, one row's value, a row replaced, and maps between domains.
+use Rattle.std.proofs.lemmas.Grind.{common_steps}
 use Prim.Native.Nat.{◌*◌, ◌+◌, ◌-◌, ◌<◌, suc, zero, ℕ}
 use Rattle.aig.proofs.LiteralLaws.{vertex-below}
-use Rattle.aig.proofs.ValuesLaws.{all-good, value-good}
+use Rattle.aig.proofs.ValuesLaws.{value-good}
 use Rattle.aig.specs.Literal.{inverted?, vertex_of}
 use Rattle.aig.specs.Values.{Algebra, AllGood, literal_value}
 use Rattle.table.specs.Accepted.{Downward, RowBelow}
 use Rattle.table.specs.Values.{Homomorphism, Pair, row_value, vertex_values}
+use Rattle.std.proofs.lemmas.List.{map-append}
 use lib.ListN.{get_or-append, get_or-map, drop, get_or, length, length-append, set, take}
 use lib.Seq.{ext_get_or, get_or-append_seam, length-take-le, set_split, split_at}
 use mathlib.Core.Bool.{Bool, cond, false, true}
@@ -145,12 +147,7 @@ module _ {A : Type 0} (invert : A → A) (both : A → A → A) (falsum : A) whe
 -- Good values stay good.
 module _ {A : Type 0} {Good : A → Type 0} {invert : A → A} {both : A → A → A} {falsum : A} (L : Algebra Good invert both falsum) where
   good_append : (vs : List A) (x : A) → AllGood Good falsum vs → Good x → AllGood Good falsum (vs ++ (x ∷ []))
-  good_append vs x good g =
-      all-good Good falsum L.good_false (vs ++ (x ∷ [])) λ v h.
-      elim (dec_lt v (length vs)) [
-        | yes k ↦ rw (get_or-append vs (x ∷ []) falsum v k) (good v)
-        | no k ↦ (let e : v ≡ length vs = omega (arith, length-append vs (x ∷ [])) in rw (e, get_or-append_seam vs x [] falsum) g)
-      ]
+  good_append vs x good g = grind (arith, common_steps)
 
   pub values-good : (vs : List A) (rs : List Pair) → AllGood Good falsum vs → AllGood Good falsum (vertex_values invert both falsum vs rs)
   unfolding vertex_values
@@ -159,9 +156,9 @@ module _ {A : Type 0} {Good : A → Type 0} {invert : A → A} {both : A → A �
       values-good (vs ++ (row_value invert both falsum vs r ∷ [])) rs
       (good_append vs _ good (L.good-both _ _ (value-good L vs good r.0) (value-good L vs good r.1)))
 
-map_append : {A B : Type 0} (h : A → B) (us vs : List A) → map h (us ++ vs) ≡ map h us ++ map h vs
-map_append h [] vs = refl
-map_append h (u ∷ us) vs = ap (◌∷◌ (h u)) (map_append h us vs)
+-- A map over two lists, one after the other, is the one over each.
+pub map_append : {A B : Type 0} (h : A → B) (us vs : List A) → map h (us ++ vs) ≡ map h us ++ map h vs
+map_append h us vs = map-append h us vs
 
 -- A homomorphism keeps all values.
 module _ {A B : Type 0} {invert : A → A} {both : A → A → A} {falsum : A} {invert' : B → B} {both' : B → B → B} {falsum' : B} {h : A → B}

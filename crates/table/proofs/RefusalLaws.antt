@@ -1,7 +1,8 @@
 -- Lists of tests: the first refusal that applies in one list and then in another.
+use Rattle.std.proofs.lemmas.Grind.{common_steps}
 use Prim.Native.Nat.{◌≤◌, ℕ}
 use Rattle.table.specs.Refusals.{Test, first_refusal}
-use Rattle.table.specs.Table.{malformed?, out_of_order?, table_tests}
+use Rattle.table.specs.Table.{table_tests}
 use mathlib.Core.Bool.{Bool, cond, false, true}
 use mathlib.Core.List.{List, [], ◌++◌, ◌∷◌}
 use mathlib.Core.Path.{◌≡◌, refl}
@@ -39,7 +40,4 @@ first-passed (t ∷ ts) us h = go t.applies h (first-passed ts us)
 -- Where tests 10 and 11 do not apply, the tests after them decide.
 pub table-passed : (ws : List ℕ) (us : List (Test ℕ)) → first_refusal 0 (table_tests ws) ≡ 0 → first_refusal 0 (table_tests ws ++ us) ≡ first_refusal 0 us
 unfolding first_refusal
-table-passed ws us h =
-    let p = none-applies 10 (malformed? ws) (record { answer = 11; applies = out_of_order? ws } ∷ []) (omega arith) h in
-    let q = none-applies 11 (out_of_order? ws) [] (omega arith) p.1 in
-    rw (p.0, q.0) refl
+table-passed ws us h = grind (arith, common_steps)

@@ -1,13 +1,14 @@
 // The refusals 10 and 11: whether some words are a table that keeps the rules.
 #![tactic(auto)]
 
-ghost use Rattle.std.specs.Prelude.{◌*◌, ◌+◌, ◌<◌, ◌≤◌, drop, length, ◌≡◌};
-ghost use Rattle.table.specs.Accepted.{WellFormed};
-ghost use Rattle.table.specs.Limits.{max_ands, max_inputs};
+ghost use Rattle.std.specs.Prelude.{◌+◌, ◌≡◌, IfOk};
+ghost use Rattle.refusal.specs.Number.{refusal_number};
 ghost use Rattle.table.specs.Refusals.{first_refusal};
-ghost use Rattle.table.specs.Table.{all_below?, downward?, malformed?, out_of_order?, pairs, row_at, row_below?, table_tests};
+ghost use Rattle.table.specs.Table.{all_below?, downward?, inputs_of, malformed?, out_of_order?, row_below?, rows_of, table_tests};
 
-use table::HEADER;
+use aig::literal::Literal;
+use refusal::Refusal;
+use table::{HEADER, Table};
 
 fn is_malformed(words: &[u32]) -> bool
     ensures { result ≡ malformed? words.now }
@@ -23,26 +24,21 @@ fn is_malformed(words: &[u32]) -> bool
     words.len() < HEADER + 2 * made as usize + 2 * outputs as usize + 1
 }
 
-fn row_below(words: &[u32], at: usize, bound: u32) -> bool
-    requires { at + 1 < length words.now }
-    ensures { result ≡ row_below? bound (row_at words.now at) }
+fn row_below(row: (Literal, Literal), bound: u32) -> bool
+    ensures { result ≡ row_below? bound (row.0.0, row.1.0) }
 {
-    words[at] < bound && words[at + 1] < bound
+    row.0.0 < bound && row.1.0 < bound
 }
 
-// Whether each row's literals are below twice its vertex, the first of `made` rows being that of vertex `first`.
-fn is_downward(words: &[u32], first: u32, made: usize) -> bool
-    requires { (first ≤ 1 + max_inputs) × (made ≤ max_ands) × (3 + 2 * made ≤ length words.now) }
-    ensures { result ≡ downward? first (pairs made (drop 3 words.now)) }
+// Whether each row's literals are below twice its vertex.
+fn is_downward(table: &Table<'_>) -> bool
+    ensures { result ≡ downward? (1 + inputs_of table.now.words.now) (rows_of table.now.words.now) }
 {
-    let mut i = 0;
-    let mut v = first;
-    while i < made {
-        if !row_below(words, HEADER + 2 * i, 2 * v) {
+    let first = 1 + table.inputs();
+    for i in 0..table.made() {
+        if !row_below(table.row(i as usize), 2 * (first + i)) {
             return false;
         }
-        i += 1;
-        v += 1;
     }
     true
 }
@@ -51,45 +47,35 @@ fn is_downward(words: &[u32], first: u32, made: usize) -> bool
 fn all_below(words: &[u32], bound: u32) -> bool
     ensures { result ≡ all_below? bound words.now }
 {
-    let mut i = 0;
-    while i < words.len() {
-        if bound <= words[i] {
-            return false;
-        }
-        i += 1;
-    }
-    true
+    words.iter().all(|word| *word < bound)
 }
 
-fn is_out_of_order(words: &[u32]) -> bool
-    requires { WellFormed words.now }
-    ensures { result ≡ out_of_order? words.now }
+fn is_out_of_order(table: &Table<'_>) -> bool
+    ensures { result ≡ out_of_order? table.now.words.now }
 {
-    let inputs = words[0];
-    let rows = words[1];
-    let made = rows as usize;
-    let outputs = words[2] as usize;
-    if !is_downward(words, 1 + inputs, made) {
+    let from = HEADER + 2 * table.made() as usize;
+    let end = from + 2 * table.outputs() as usize;
+    let bound = 2 * table.vertices() as u32;
+    if !is_downward(table) {
         return true;
     }
-    let from = HEADER + 2 * made;
-    let end = from + 2 * outputs;
-    let bound = 2 * (1 + inputs + rows);
-    if !all_below(&words[from..end], bound) {
+    if !all_below(&table.words[from..end], bound) {
         return true;
     }
-    !(words[end] < bound)
+    bound <= table.words[end]
 }
 
-// The first of the refusals 10 and 11 that applies to some words, or 0.
-pub fn refusal(words: &[u32]) -> u32
-    ensures { result ≡ first_refusal 0 (table_tests words.now) }
+// Some words as a table, or the first of the refusals 10 and 11 that applies to them.
+pub fn check(words: &[u32]) -> Result<Table<'_>, Refusal>
+    ensures refusal { refusal_number result ≡ first_refusal 0 (table_tests words.now) }
+    ensures table { IfOk result (λ t. t.words.now ≡ words.now) }
 {
     if is_malformed(words) {
-        return 10;
+        return Err(Refusal::MalformedTable);
     }
-    if is_out_of_order(words) {
-        return 11;
+    let table = Table { words };
+    if is_out_of_order(&table) {
+        return Err(Refusal::TableOrder);
     }
-    0
+    Ok(table)
 }

@@ -1,6 +1,7 @@
 -- Laws of `decimal` and `written`.
-use Prim.Native.Nat.{◌%◌, ◌+◌, ◌/◌, ◌<◌, ◌^◌, ◌≤◌, suc, zero, ℕ}
+use Prim.Native.Nat.{◌%◌, ◌+◌, ◌-◌, ◌/◌, ◌<◌, ◌^◌, ◌≤◌, suc, zero, ℕ}
 use Rattle.text.specs.Decimal.{Stored, decimal, digits_within, written}
+use borrow.Rule.Slice.PartMut.{put_mid}
 use borrow.Author.Tests.{le-ltb, lt-ltb, ltb-false, ltb-true}
 use lib.Dec.{ltb}
 use lib.ListN.{get_or-append, drop, get_or, length, length-append, length-drop, set, take}
@@ -110,3 +111,11 @@ stored-append {old} {a = a} {b = b} {at = at} h p q =
       place = rw length-append (omega (arith, p.place, q.place));
       list = q.list ∙ rw (p.list, p.place) (written_append old at a h b);
     }
+
+-- Bytes copied into a part of their length are stored.
+pub stored_part :
+    (old : List ℕ) (at : ℕ) (bytes part : List ℕ) → part ≡ bytes → Stored old at bytes (put_mid at (at + length bytes - at) old part) (at + length bytes)
+unfolding written
+stored_part old at bytes part e =
+    let n : at + length bytes - at ≡ length bytes = omega arith in
+    record { place = refl; list = rw (e, n, drop-drop) refl }

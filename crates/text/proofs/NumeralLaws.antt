@@ -1,14 +1,15 @@
 -- Laws of `numeral_of`, and of reading what was printed.
-use Prim.Native.Nat.{◌%◌, ◌*◌, ◌+◌, ◌-◌, ◌/◌, ◌<◌, ◌^◌, ◌≤◌, suc, ℕ}
+use Rattle.std.proofs.lemmas.Grind.{common_steps}
+use Prim.Native.Nat.{◌%◌, ◌*◌, ◌+◌, ◌-◌, ◌/◌, ◌<◌, ◌^◌, ◌≤◌, ℕ}
 use Rattle.text.proofs.DecimalLaws.{decimal-below, decimal_digit, decimal_induction, decimal-lead, decimal_length, decimal-more}
 use Rattle.text.specs.Decimal.{decimal}
 use Rattle.text.specs.Numerals.{MAX_DIGITS, all_digits, digits_from, is_digit, leading_zero, numeral_of, value_from}
 use Rattle.text.specs.Split.{has}
-use Rattle.text.specs.declared.numerals.Numeral.TheVariants.{Malformed, Value}
-use borrow.Author.Tests.{eq-eqb, eqb-true, le-leb, leb-true, lt-ltb, ltb-false, ltb-true, ne_eqb}
+use Rattle.std.specs.Prelude.{None, Some}
+use borrow.Author.Tests.{eqb-true, le-leb, leb-true, ltb-false, ltb-true, ne_eqb}
 use lib.Dec.{eqb, leb, lit<, ltb}
 use lib.ListN.{get_or, length}
-use mathlib.Core.Bool.{Bool, ◌&&◌, ◌||◌, and-false, cond, false, false≢true, not, true, true≢false}
+use mathlib.Core.Bool.{Bool, ◌&&◌, ◌||◌, and-false, cond, false, false≢true, not, true}
 use mathlib.Core.List.{List, [], ◌++◌, ◌∷◌, append_assoc, append-nil}
 use mathlib.Core.Path.{◌∙◌, ◌≡◌, ap, refl, sym}
 use native.Mathlib.Nat.{pow-le-pow_right}
@@ -23,21 +24,21 @@ pub record IsNumeral (s : List ℕ) (n : ℕ) : Type 0 where
   pub value : value_from 0 s ≡ n
 
 -- A numeral is accepted with its value.
-pub numeral_value : {s : List ℕ} {n : ℕ} → IsNumeral s n → numeral_of s ≡ Value n
+pub numeral_value : {s : List ℕ} {n : ℕ} → IsNumeral s n → numeral_of s ≡ Some n
 unfolding numeral_of digits_from
-numeral_value {s} r = rw (le-leb 1 (length s) r.some, le-leb (length s) MAX_DIGITS r.few, r.lead, r.digits, r.value) refl
+numeral_value {s} r = grind (arith, common_steps)
 
 -- What is malformed has no value.
-malformed_no_value : (n : ℕ) → Malformed ≡ Value n → ⊥
+malformed_no_value : (n : ℕ) → None ≡ Some n → ⊥
 malformed_no_value n h = let z : ◌≡◌ {A = ℕ} 0 1 = cc in omega arith
 
 -- What is accepted is a numeral.
-pub value_numeral : (s : List ℕ) (n : ℕ) → numeral_of s ≡ Value n → IsNumeral s n
+pub value_numeral : (s : List ℕ) (n : ℕ) → numeral_of s ≡ Some n → IsNumeral s n
 unfolding numeral_of digits_from
 value_numeral s n h = go (leb 1 (length s)) (leb (length s) MAX_DIGITS) (leading_zero s) (all_digits s) refl refl refl refl h
   where
     go : (a b c d : Bool) → leb 1 (length s) ≡ a → leb (length s) MAX_DIGITS ≡ b → leading_zero s ≡ c → all_digits s ≡ d
-        → cond (a && b && not c) (cond d (Value (value_from 0 s)) Malformed) Malformed ≡ Value n → IsNumeral s n
+        → cond (a && b && not c) (cond d (Some (value_from 0 s)) None) None ≡ Some n → IsNumeral s n
     go false b c d ea eb ec ed h = absurd (malformed_no_value n h)
     go true false c d ea eb ec ed h = absurd (malformed_no_value n h)
     go true true true d ea eb ec ed h = absurd (malformed_no_value n h)
@@ -98,7 +99,7 @@ decimal_no_zero n = go (ltb n 10) refl
         rw (ne_eqb (get_or (decimal n) 0 0) 48 (λ q. omega arith), and-false) refl
 
 -- What was printed of a number of at most `MAX_DIGITS` digits is read as that number.
-pub read_decimal : (n : ℕ) → n < 10 ^ MAX_DIGITS → numeral_of (decimal n) ≡ Value n
+pub read_decimal : (n : ℕ) → n < 10 ^ MAX_DIGITS → numeral_of (decimal n) ≡ Some n
 read_decimal n h =
     numeral_value
     (record { some = (decimal-lead n).0; few = decimal_length 5 n h; lead = decimal_no_zero n; digits = decimal-digits n; value = decimal-value n })
@@ -115,9 +116,7 @@ decimal-from m (b ∷ bs) h d =
 
 -- The first of several digits without a leading zero is no zero.
 first_not_zero : (b c : ℕ) (bs : List ℕ) → leading_zero (b ∷ (c ∷ bs)) ≡ false → b ≡ 48 → ⊥
-first_not_zero b c bs h e =
-    let g : (true && true) ≡ false = rw (lt-ltb 1 (suc (suc (length bs))) (omega arith), eq-eqb b 48 e) at h in
-    true≢false g
+first_not_zero b c bs h e = grind (arith, common_steps)
 
 -- A numeral is the decimal digits of its value.
 spelled : (s : List ℕ) (n : ℕ) → IsNumeral s n → s ≡ decimal n
@@ -136,7 +135,7 @@ spelled (b ∷ (c ∷ bs)) n r =
     sym (ap decimal (sym r.value) ∙ decimal-from m (c ∷ bs) (omega (arith, z, f.low)) f.others ∙ rw (decimal_digit m d, l) refl)
 
 -- Whatever is read as a number is its decimal digits, so that a number has one spelling.
-pub value-decimal : (s : List ℕ) (n : ℕ) → numeral_of s ≡ Value n → (s ≡ decimal n) × (n < 10 ^ MAX_DIGITS)
+pub value-decimal : (s : List ℕ) (n : ℕ) → numeral_of s ≡ Some n → (s ≡ decimal n) × (n < 10 ^ MAX_DIGITS)
 value-decimal s n h =
     let r = value_numeral s n h in
     let e : s ≡ decimal n = spelled s n r in

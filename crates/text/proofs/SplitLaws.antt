@@ -1,7 +1,9 @@
 -- Laws of `up_to`, `split_at` and `join`.
 use Prim.Native.Nat.{◌+◌, ◌<◌, ◌≤◌, suc, ℕ}
-use Rattle.text.specs.Split.{any_has, has, join, on_first, split_at, up_to}
-use borrow.Author.Tests.{eq-eqb, eqb-true, ne_eqb}
+use Rattle.std.proofs.lemmas.List.Splits.{join_with_byte-slice_split}
+use Rattle.std.specs.List.{onto_first}
+use Rattle.text.specs.Split.{any_has, has, join, split_at, up_to}
+use borrow.Author.Tests.{eq-eqb, ne_eqb}
 use lib.Dec.{eqb}
 use lib.ListN.{drop, get_or, length, length-drop}
 use lib.Seq.{drop-drop}
@@ -50,7 +52,7 @@ pub split_at-last : (k : ℕ) (s : List ℕ) → has k s ≡ false → split_at 
 split_at-last k [] h = refl
 split_at-last k (b ∷ bs) h = go (eqb b k) (split_at-last k bs) h
   where
-    go : (t : Bool) → (has k bs ≡ false → split_at k bs ≡ bs ∷ []) → (t || has k bs) ≡ false → cond t ([] ∷ split_at k bs) (on_first b (split_at k bs)) ≡ (b ∷ bs) ∷ []
+    go : (t : Bool) → (has k bs ≡ false → split_at k bs ≡ bs ∷ []) → (t || has k bs) ≡ false → cond t ([] ∷ split_at k bs) (onto_first b (split_at k bs)) ≡ (b ∷ bs) ∷ []
     go true f e = cc
     go false f e = rw (f e) refl
 
@@ -60,7 +62,7 @@ split_at-more k [] h = cc
 split_at-more k (b ∷ bs) h = go (eqb b k) (split_at-more k bs) h
   where
     go : (t : Bool) → (has k bs ≡ true → split_at k bs ≡ up_to k bs ∷ split_at k (drop (length (up_to k bs) + 1) bs)) → (t || has k bs) ≡ true
-        → cond t ([] ∷ split_at k bs) (on_first b (split_at k bs)) ≡ cond t [] (b ∷ up_to k bs) ∷ split_at k (drop (length (cond t [] (b ∷ up_to k bs)) + 1) (b ∷ bs))
+        → cond t ([] ∷ split_at k bs) (onto_first b (split_at k bs)) ≡ cond t [] (b ∷ up_to k bs) ∷ split_at k (drop (length (cond t [] (b ∷ up_to k bs)) + 1) (b ∷ bs))
     go true f e = refl
     go false f e = rw (f e, add-one (length (up_to k bs)), add-one (suc (length (up_to k bs)))) refl
 
@@ -92,24 +94,14 @@ split_at-some k s = go (has k s) refl
     go false e = rw (split_at-last k s e) (omega arith)
 
 -- A byte in front of the first part is in front of the parts joined.
-join-on_first : (k b : ℕ) (ps : List (List ℕ)) → 0 < length ps → join k (on_first b ps) ≡ b ∷ join k ps
+pub join-on_first : (k b : ℕ) (ps : List (List ℕ)) → 0 < length ps → join k (onto_first b ps) ≡ b ∷ join k ps
 join-on_first k b [] h = absurd (omega arith)
 join-on_first k b (p ∷ []) h = refl
 join-on_first k b (p ∷ (q ∷ ps)) h = refl
 
--- An empty part in front is a separator in front.
-join-empty : (k : ℕ) (ps : List (List ℕ)) → 0 < length ps → join k ([] ∷ ps) ≡ k ∷ join k ps
-join-empty k [] h = absurd (omega arith)
-join-empty k (p ∷ ps) h = refl
-
 -- The parts joined are the bytes that were split.
 pub join-split_at : (k : ℕ) (s : List ℕ) → join k (split_at k s) ≡ s
-join-split_at k [] = refl
-join-split_at k (b ∷ bs) = go (eqb b k) refl (join-split_at k bs)
-  where
-    go : (t : Bool) → eqb b k ≡ t → join k (split_at k bs) ≡ bs → join k (cond t ([] ∷ split_at k bs) (on_first b (split_at k bs))) ≡ b ∷ bs
-    go true e h = join-empty k (split_at k bs) (split_at-some k bs) ∙ rw (h, eqb-true b k e) refl
-    go false e h = join-on_first k b (split_at k bs) (split_at-some k bs) ∙ rw h refl
+join-split_at k s = join_with_byte-slice_split k s
 
 -- A part without the separator, then the separator: the first part is cut off.
 pub split_at_append : (k : ℕ) (p s : List ℕ) → has k p ≡ false → split_at k (p ++ k ∷ s) ≡ p ∷ split_at k s
@@ -117,7 +109,7 @@ split_at_append k [] s h = rw (eq-eqb k k refl) refl
 split_at_append k (b ∷ bs) s h = go (eqb b k) (split_at_append k bs s) h
   where
     go : (t : Bool) → (has k bs ≡ false → split_at k (bs ++ k ∷ s) ≡ bs ∷ split_at k s) → (t || has k bs) ≡ false
-        → cond t ([] ∷ split_at k (bs ++ k ∷ s)) (on_first b (split_at k (bs ++ k ∷ s))) ≡ (b ∷ bs) ∷ split_at k s
+        → cond t ([] ∷ split_at k (bs ++ k ∷ s)) (onto_first b (split_at k (bs ++ k ∷ s))) ≡ (b ∷ bs) ∷ split_at k s
     go true f e = cc
     go false f e = rw (f e) refl
 

@@ -1,7 +1,8 @@
 -- What a turn of the loops that cut bytes into parts shows.
 use Prim.Native.Nat.{◌+◌, ◌-◌, ◌<◌, ◌≤◌, suc, ℕ}
 use Rattle.text.proofs.SplitLaws.{split_at-first, split_at-last, split_at-next, split_at-some, up_to_shorter}
-use Rattle.text.specs.Split.{has, on_first, split_at, up_to}
+use Rattle.std.specs.List.{onto_first}
+use Rattle.text.specs.Split.{has, split_at, up_to}
 use borrow.Author.Tests.{eq-eqb, ne_eqb}
 use lib.ListN.{drop, drop_of_length-le, get_or, length, length-drop, take}
 use lib.Seq.{drop-cons, drop-drop, drop-length, get_or-drop, take-suc}
@@ -12,7 +13,7 @@ use native.Mathlib.Numerals.{add-one}
 use native.Mathlib.Omega.{arith}
 
 -- A byte in front of the first part leaves the number of parts.
-on_first_length : (b : ℕ) (ps : List (List ℕ)) → 0 < length ps → length (on_first b ps) ≡ length ps
+on_first_length : (b : ℕ) (ps : List (List ℕ)) → 0 < length ps → length (onto_first b ps) ≡ length ps
 on_first_length b [] h = absurd (omega arith)
 on_first_length b (p ∷ ps) h = refl
 

@@ -1,7 +1,5 @@
 -- Decimal numerals read.
-use Rattle.std.specs.Prelude.{◌*◌, ◌+◌, ◌-◌, ℕ, eqb, leb, ltb, get_or, length, Bool, ◌&&◌, cond, not, true, List, [], ◌∷◌}
-use Rattle.text.specs.declared.numerals.Numeral.TheVariants.{Malformed, Value}
-use Rattle.text.specs.declared.numerals.Numeral.{Numeral}
+use Rattle.std.specs.Prelude.{◌*◌, ◌+◌, ◌-◌, ℕ, eqb, leb, ltb, get_or, length, Bool, ◌&&◌, cond, not, true, List, [], ◌∷◌, Option, Some, None}
 
 -- "1 to 6 digits": the most digits of a numeral. (RULES 1.2)
 abbrev pub MAX_DIGITS : ℕ
@@ -26,9 +24,9 @@ abbrev pub leading_zero : List ℕ → Bool
 leading_zero s = ltb 1 (length s) && eqb (get_or s 0 0) 48
 
 -- Digits as a number, after those that stand for `n`.
-unfoldable pub digits_from : ℕ → List ℕ → Numeral
-digits_from n s = cond (all_digits s) (Value (value_from n s)) Malformed
+unfoldable pub digits_from : ℕ → List ℕ → Option ℕ
+digits_from n s = cond (all_digits s) (Some (value_from n s)) None
 
 -- "Numerals throughout are decimal, 1 to 6 digits, without leading zeros ("0" itself is allowed)." (RULES 1.2)
-unfoldable pub numeral_of : List ℕ → Numeral
-numeral_of s = cond (leb 1 (length s) && leb (length s) MAX_DIGITS && not (leading_zero s)) (digits_from 0 s) Malformed
+unfoldable pub numeral_of : List ℕ → Option ℕ
+numeral_of s = cond (leb 1 (length s) && leb (length s) MAX_DIGITS && not (leading_zero s)) (digits_from 0 s) None

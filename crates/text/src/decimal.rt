@@ -2,6 +2,7 @@ ghost use Rattle.std.specs.Prelude.{◌+◌, ◌<◌, ◌≤◌, length, ◌≡�
 ghost use Rattle.text.specs.Decimal.{Stored, decimal};
 
 // Stores the decimal digits of `n` in `out` from `at` on, and gives back the place after them.
+// std's `write!` says what it wrote only of an `Ok`, and no clause rules out an `Err`; here the digits are promised.
 pub fn print(n: u64, out: &mut [u8], at: usize) -> usize
     requires { at + length (decimal n) ≤ length out.old }
     ensures { Stored out.old at (decimal n) out.new result }

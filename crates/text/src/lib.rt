@@ -8,5 +8,5 @@ mod split;
 
 pub use bytes::same;
 pub use decimal::print;
-pub use numerals::{Numeral, parse};
+pub use numerals::parse;
 pub use split::{part, part_count, until};

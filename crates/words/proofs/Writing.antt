@@ -58,15 +58,17 @@ module _ {old list : List ℕ} {n v : ℕ} (w : Writing old 0 (own_words 0 n) li
   unfolding own_words
   own-ends h = let z : n - v ≡ 0 = omega arith in writing-ends (rw z at w)
 
--- Words copied.
+-- Words copied: at the start all are ahead.
 pub copy_begins : (old : List ℕ) (at : ℕ) (words : List ℕ) → Writing old at words old (at + 0) words
 copy_begins old at words = let z : at + 0 ≡ at = omega arith in rw z (writing_begins old at words)
 
 module _ {old words list : List ℕ} {at i : ℕ} (w : Writing old at words list (at + i) (drop i words)) where
+  -- Word i is copied to place `at + i`.
   pub copy_turn : i < length words → at + i < length list → Writing old at words (set list (at + i) (get_or words i 0)) (at + (i + 1)) (drop (i + 1) words)
   copy_turn h l =
       let m : at + (i + 1) ≡ at + i + 1 = omega arith in
       rw (m, add-one i) (writing-turn (rw (drop-cons words i 0 h) at w) l)
 
+  -- All are copied.
   pub copy_ends : length words ≤ i → list ≡ written old at words
   copy_ends h = writing-ends (rw (drop_of_length-le words h) at w)

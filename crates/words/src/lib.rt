@@ -10,12 +10,9 @@ pub fn copy(words: &[u32], to: &mut [u32], at: usize) -> usize
     requires { at + length words.now ≤ length to.old }
     ensures { Stored to.old at words.now to.new result }
 {
-    let mut i = 0;
-    while i < words.len() {
-        to[at + i] = words[i];
-        i += 1;
-    }
-    at + words.len()
+    let end = at + words.len();
+    to[at..end].copy_from_slice(words);
+    end
 }
 
 // The words of the first vertices: each holds its own literal twice.
@@ -23,11 +20,9 @@ pub fn write_own(pairs: &mut [u32], count: u32)
     requires { (count < 2 ^ 31) × (2 * count ≤ length pairs.old) }
     ensures { pairs.new ≡ written pairs.old 0 (own_words 0 count) }
 {
-    let mut v: u32 = 0;
-    while v < count {
+    for v in 0..count {
         let at = 2 * v as usize;
         pairs[at] = 2 * v;
         pairs[at + 1] = 2 * v;
-        v += 1;
     }
 }

@@ -1,9 +1,7 @@
 -- Two references at the highest input on which either depends, and the products that end at once.
-use Rattle.std.specs.Prelude.{◌/◌, max, ℕ, false, true, List, ◌≡◌}
+use Rattle.std.specs.Prelude.{◌/◌, max, ℕ, false, true, List, None, Option, Some, ◌≡◌}
 use Rattle.bdd.specs.Diagram.{Canonical, Reference, cofactor, denote}
 use Rattle.bdd.specs.code.Rows.{level_at}
-use Rattle.bdd.specs.declared.references.Ending.TheVariants.{No, Yes}
-use Rattle.bdd.specs.declared.references.Ending.{Ending}
 use Rattle.bdd.specs.declared.references.Halves.{Halves}
 use Rattle.truth.specs.Steps.{terminal?}
 use Rattle.truth.specs.Truth.{conj}
@@ -27,6 +25,6 @@ pub record GoesOn (f g : ℕ) : Type 0 where
   pub going : (rows : List ℕ) (n m : ℕ) → Canonical rows n → Reference rows n m f → Reference rows n m g → terminal? (denote rows m f) (denote rows m g) ≡ false
 
 -- What `ends` gives, by its answer.
-abbrev pub Ends : ℕ → ℕ → Ending → Type 0
-Ends f g (Yes r) = EndsAt f g r
-Ends f g No = GoesOn f g
+abbrev pub Ends : ℕ → ℕ → Option ℕ → Type 0
+Ends f g (Some r) = EndsAt f g r
+Ends f g None = GoesOn f g

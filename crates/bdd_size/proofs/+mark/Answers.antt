@@ -1,6 +1,7 @@
 use Prim.Native.Nat.{◌+◌, ◌/◌, ◌≤◌, ℕ}
-use Rattle.bdd_size.proofs.MarkLaws.{ToMark, count-bound, high-earlier, low-earlier, mark-again, mark-constant-row, mark-high, mark-low, mark-row, set_mark-asks}
-use mathlib.Core.Path.{◌∙◌, ap, sym}
+use Rattle.bdd_size.proofs.MarkLaws.{ToMark, count-bound, high-earlier, low-earlier, mark-high, mark-low, mark-row, set_mark-asks}
+use mathlib.Core.Bool.{false≢true}
+use mathlib.Core.Path.{ap}
 use native.Mathlib.Omega.{arith}
 use Rattle.bdd_size.proofs.+mark.Goals as goal
 use Rattle.bdd_size.proofs.+mark.Goals.{After-high_of-high}
@@ -12,26 +13,10 @@ known t c =
       pos = omega (arith, c.if-i-eq0.false);
       canonical = c.requires.0;
       long = c.requires.1;
-      free = λ o. c.if-mark_of-eq1.false (c.mark_of.ensures ∙ o);
+      free = λ o. false≢true (c.if-is_marked.ensures.1 o);
       low = ap (λ x. x / 2) c.low_of-low.ensures.0;
       high = ap (λ x. x / 2) c.high_of-high.ensures.0;
     }
-
-pub returns-then-i-eq0 : goal.returns-then-i-eq0
-returns-then-i-eq0 t c = mark-constant-row c.args.rows.now c.args.i c.if-i-eq0.true
-
-pub mark_of-requires : goal.mark_of-requires
-mark_of-requires t c = c.requires.1
-
-pub returns-then-mark_of-eq1 : goal.returns-then-mark_of-eq1
-returns-then-mark_of-eq1 t c =
-    mark-again c.args.rows.now c.args.i (sym c.mark_of.ensures ∙ c.if-mark_of-eq1.true)
-
-pub low_of-low-requires : goal.low_of-low-requires
-low_of-low-requires t c = c.requires.1
-
-pub high_of-high-requires : goal.high_of-high-requires
-high_of-high-requires t c = c.requires.1
 
 pub mark-low_count-requires : goal.mark-low_count-requires
 mark-low_count-requires t c =

@@ -1,7 +1,9 @@
 use Prim.Native.Nat.{◌/◌, ℕ}
-use Rattle.bdd.proofs.RowsLaws.{mark-one}
+use Rattle.bdd.proofs.RowsLaws.{mark-cases}
 use Rattle.bdd_size.proofs.MarkLaws.{ToWipe, clear-mark-asks, wipe_high, wipe_high-earlier, wipe_low, wipe_low-earlier, wipe_none, wipe_pos, wipe_row}
-use mathlib.Core.Path.{◌∙◌, ap, sym}
+use mathlib.Core.Bool.{false≢true}
+use mathlib.Core.Logic.{⊎_elim}
+use mathlib.Core.Path.{ap, refl}
 use native.Mathlib.Omega.{arith}
 use Rattle.bdd_size.proofs.+wipe.Goals as goal
 use Rattle.bdd_size.proofs.+wipe.Goals.{After-high_of-high}
@@ -11,23 +13,15 @@ known : (t : ℕ) (c : After-high_of-high t) → ToWipe c.args.rows.now c.args.i
 known t c =
     record {
       ready = c.requires;
-      one = mark-one c.args.rows.now c.args.i (λ z. c.if-mark_of-eq0.false (c.mark_of.ensures ∙ z));
+      one = c.if-not-is_marked.ensures.0 refl;
       low = ap (λ x. x / 2) c.low_of-low.ensures.0;
       high = ap (λ x. x / 2) c.high_of-high.ensures.0;
     }
 
-pub mark_of-requires : goal.mark_of-requires
-mark_of-requires t c = c.requires.long
-
-pub returns-then-mark_of-eq0 : goal.returns-then-mark_of-eq0
-returns-then-mark_of-eq0 t c =
-    wipe_none c.args.rows.now c.args.i c.requires (sym c.mark_of.ensures ∙ c.if-mark_of-eq0.true)
-
-pub low_of-low-requires : goal.low_of-low-requires
-low_of-low-requires t c = c.requires.long
-
-pub high_of-high-requires : goal.high_of-high-requires
-high_of-high-requires t c = c.requires.long
+pub returns-then-not-is_marked : goal.returns-then-not-is_marked
+returns-then-not-is_marked t c =
+    wipe_none c.args.rows.now c.args.i c.requires
+    (⊎_elim (λ z. z) (λ o. absurd (false≢true (c.if-not-is_marked.ensures.1 o))) (mark-cases c.args.rows.now c.args.i))
 
 pub wipe-requires : goal.wipe-requires
 wipe-requires t c =

@@ -1,22 +1,26 @@
 -- The marks count the rows that are reached, and wiping leaves every word as it was.
 -- No loop.
 use Prim.Native.Nat.{◌/◌}
-use Rattle.bdd.proofs.AgreeLaws.{canonical-fewer}
 use Rattle.bdd_size.proofs.MarkLaws.{wipe_asks}
 use Rattle.bdd_size.proofs.SizeLaws.{sized}
+use Rattle.bdd_size.specs.code.Marks.{Sized}
 use native.Mathlib.Omega.{arith}
 use Rattle.bdd_size.proofs.size.Goals as goal
-
-pub mark-c-requires : goal.mark-c-requires
-mark-c-requires c =
-    let S = c.requires.store in
-    (canonical-fewer S.canonical c.requires.stored, omega (arith, c.requires.stored, S.room.used, S.room.long))
+use Rattle.bdd_size.proofs.size.Goals.{After-wipe}
 
 pub wipe-requires : goal.wipe-requires
 wipe-requires c =
-    let S = c.requires.store in
-    wipe_asks c.args.rows.now c.mark-c.new.rows c.args.used (c.args.r / 2) c.mark-c.result S.canonical c.requires.stored (omega (arith, S.room.used, S.room.long)) S.unmarked c.mark-c.ensures
+    let s = c.args.store.now in
+    wipe_asks s.rows.now c.mark-count.new.rows s.used (c.args.r / 2) c.mark-count.result s.store.canonical c.requires (omega (arith, s.store.room.used, s.store.room.long)) s.store.unmarked c.mark-count.ensures
 
-pub returns : goal.returns
-returns c =
-    sized c.args.rows.now c.mark-c.new.rows c.wipe.new.rows c.args.limit c.args.used c.args.r c.mark-c.result c.requires.store c.requires.stored c.mark-c.ensures c.wipe.ensures
+-- What is known once the marks are wiped.
+whole : (c : After-wipe) → Sized c.args.store.now.rows.now c.wipe.new.rows c.args.r c.mark-count.result
+whole c =
+    let s = c.args.store.now in
+    sized s.rows.now c.mark-count.new.rows c.wipe.new.rows s.limit s.used c.args.r c.mark-count.result s.store c.requires c.mark-count.ensures c.wipe.ensures
+
+pub invariant_of-store : goal.invariant_of-store
+invariant_of-store c = record { store = rw (whole ((goal.at.invariant_of-store c).After-wipe)).same c.args.store.now.store }
+
+pub returns-clause-sized : goal.returns-clause-sized
+returns-clause-sized c = whole ((goal.at.returns-clause-sized c).After-wipe)

@@ -1,31 +1,25 @@
-use Rattle.bdd_unique.proofs.ChainLaws.{cleared, emptying_begins, emptying_on}
-use mathlib.Core.Path.{◌≡◌}
+use Rattle.bdd_unique.proofs.ChainLaws.{cleared, emptied_more}
+use Rattle.bdd_unique.specs.code.Unique.{Cleared, emptied}
+use mathlib.Core.Path.{◌≡◌, refl}
 use native.Mathlib.Omega.{arith}
 use Rattle.bdd_unique.proofs.clear.Goals as goal
+use Rattle.bdd_unique.proofs.clear.Goals.{After-loop-b}
 
-pub loop-i-init : goal.loop-i-init
-loop-i-init c = emptying_begins c.args.rows.now c.args.limit
+pub loop-b-init : goal.loop-b-init
+unfolding emptied
+loop-b-init c = refl
 
-pub overflow_add-i : goal.overflow_add-i
-overflow_add-i c = omega (arith, c.requires.small)
+pub loop-b-preserved : goal.loop-b-preserved
+loop-b-preserved c = emptied_more c.args.rows.now c.loop-b.b c.loop-b.invariant c.put_word.ensures
 
-pub put_word-requires : goal.put_word-requires
-put_word-requires c = (omega arith, omega arith, omega (arith, c.loop-i.invariant.long, c.requires.long), omega arith)
+-- Every bucket is empty after the loop.
+whole : (c : After-loop-b) → Cleared c.args.rows.now c.loop-b.rows c.args.limit
+whole c =
+    let all : c.loop-b.b ≡ c.args.limit = omega arith in
+    cleared c.args.rows.now c.args.limit c.requires c.loop-b.rows (rw (← all) c.loop-b.invariant)
 
-pub overflow_add-i-in-loop-i : goal.overflow_add-i-in-loop-i
-overflow_add-i-in-loop-i c = omega (arith, c.requires.small)
+pub invariant_of-result : goal.invariant_of-result
+invariant_of-result c = record { store = (whole c).store }
 
-pub loop-i-smaller : goal.loop-i-smaller
-loop-i-smaller c = omega arith
-
-pub loop-i-preserved : goal.loop-i-preserved
-loop-i-preserved c =
-    let a = c.args in
-    emptying_on a.rows.now c.loop-i.rows a.limit c.loop-i.i c.loop-i.invariant c.loop-i-test.true c.put_word.new.rows c.put_word.ensures
-
-pub returns : goal.returns
-returns c =
-    let a = c.args in
-    let E = c.loop-i.invariant in
-    let done : c.loop-i.i ≡ a.limit = omega (arith, E.within, c.loop-i-test.false) in
-    cleared a.rows.now a.limit c.requires c.loop-i.rows (rw (← done) E.is)
+pub returns-clause-cleared : goal.returns-clause-cleared
+returns-clause-cleared c = whole ((goal.at.returns-clause-cleared c).After-loop-b)

@@ -1,11 +1,7 @@
 -- The invariant: the buckets passed are empty and nothing else is changed.
--- The measure: the buckets that are left.
-use Prim.Native.Nat.{◌-◌}
-use Rattle.bdd_unique.proofs.ChainLaws.{Emptying}
+use Rattle.bdd_unique.specs.code.Unique.{emptied}
+use mathlib.Core.Path.{◌≡◌}
 use Rattle.bdd_unique.proofs.clear.Given as goal
 
-abbrev pub invariant-loop-i : goal.invariant-loop-i
-invariant-loop-i l = Emptying l.initial.rows l.rows l.limit l.i
-
-abbrev pub decreases-loop-i : goal.decreases-loop-i
-decreases-loop-i l = l.limit - l.i
+abbrev pub invariant-loop-b : goal.invariant-loop-b
+invariant-loop-b l = l.rows ≡ emptied l.initial.rows l.b

@@ -4,7 +4,7 @@ use Rattle.bdd_unique.proofs.ChainLaws.{Walk}
 use Rattle.bdd_unique.proofs.find.Given as goal
 
 abbrev pub invariant-loop-i : goal.invariant-loop-i
-invariant-loop-i l = Walk l.rows l.limit l.used l.level l.low l.high l.i
+invariant-loop-i l = Walk l.store.rows.now l.store.limit l.store.used l.node.level l.node.low l.node.high l.i
 
 abbrev pub decreases-loop-i : goal.decreases-loop-i
 decreases-loop-i l = l.i

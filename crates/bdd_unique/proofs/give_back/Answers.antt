@@ -1,27 +1,24 @@
-use Rattle.bdd_unique.proofs.ChainLaws.{returning_begins, returning_ends, returning_on, returning_room}
+use Rattle.bdd_unique.proofs.ChainLaws.{returning_begins, returning_ends, returning_on, unlinked_one}
+use mathlib.Core.Path.{◌∙◌, refl}
 use native.Mathlib.Omega.{arith}
 use Rattle.bdd_unique.proofs.give_back.Goals as goal
 
-pub loop-i-init : goal.loop-i-init
-loop-i-init c = returning_begins c.args.rows.now c.args.limit c.args.used c.args.kept c.requires.fewer
+pub loop-store-init : goal.loop-store-init
+loop-store-init c =
+    let s = c.args.store.now in
+    ((refl, refl, refl), returning_begins s.rows.now s.limit s.used c.args.kept c.requires)
 
-pub unlink-requires : goal.unlink-requires
-unlink-requires c =
-    let a = c.args in
-    (omega (arith, c.loop-i-test.true), returning_room a.rows.now a.limit a.used a.kept c.requires.store c.loop-i.rows c.loop-i.i c.loop-i.invariant)
+pub invariant_of-store : goal.invariant_of-store
+invariant_of-store c = record { store = unlinked_one c.loop-store.store.store (omega arith) c.unlink.ensures }
 
-pub overflow_sub-i : goal.overflow_sub-i
-overflow_sub-i c = omega arith
+pub loop-store-preserved : goal.loop-store-preserved
+loop-store-preserved c =
+    let s = c.args.store.now in
+    let at = c.loop-store in
+    ((at.invariant.0.0, at.invariant.0.1, c.unlink.auto.rows ∙ at.invariant.0.2), returning_on s.rows.now s.limit s.used c.args.kept at.store.rows.now at.store.used at.invariant.1 (omega arith) c.unlink.new.rows (rw at.invariant.0.1 at c.unlink.ensures))
 
-pub loop-i-smaller : goal.loop-i-smaller
-loop-i-smaller c = omega arith
-
-pub loop-i-preserved : goal.loop-i-preserved
-loop-i-preserved c =
-    let a = c.args in
-    returning_on a.rows.now a.limit a.used a.kept c.loop-i.rows c.loop-i.i c.loop-i.invariant (omega (arith, c.loop-i-test.true)) c.unlink.new.rows c.unlink.ensures
-
-pub returns : goal.returns
-returns c =
-    let a = c.args in
-    returning_ends a.rows.now a.limit a.used a.kept c.requires.store c.loop-i.rows c.loop-i.i c.loop-i.invariant (omega (arith, c.loop-i-test.false))
+pub returns-clause-given_back : goal.returns-clause-given_back
+returns-clause-given_back c =
+    let s = c.args.store.now in
+    let at = c.loop-store in
+    returning_ends s.rows.now s.limit s.used c.args.kept s.store at.store.rows.now at.store.used at.invariant.1 (omega (arith, at.invariant.1.least))

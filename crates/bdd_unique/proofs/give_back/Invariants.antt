@@ -1,10 +1,13 @@
--- The invariant: the rows above i are given back, the newest first.
--- The measure: i.
+-- The invariant: the rows above those in use are given back, the newest first.
+-- The measure: the rows in use.
+use Rattle.bdd.specs.code.Slice.{SameSlice}
 use Rattle.bdd_unique.proofs.ChainLaws.{Returning}
 use Rattle.bdd_unique.proofs.give_back.Given as goal
 
-abbrev pub invariant-loop-i : goal.invariant-loop-i
-invariant-loop-i l = Returning l.initial.rows l.rows l.limit l.used l.kept l.i
+abbrev pub invariant-loop-store : goal.invariant-loop-store
+invariant-loop-store l =
+    SameSlice l.initial.store l.store
+    × Returning l.initial.store.rows.now l.store.rows.now l.initial.store.limit l.initial.store.used l.kept l.store.used
 
-abbrev pub decreases-loop-i : goal.decreases-loop-i
-decreases-loop-i l = l.i
+abbrev pub decreases-loop-store : goal.decreases-loop-store
+decreases-loop-store l = l.store.used

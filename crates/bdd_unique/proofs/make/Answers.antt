@@ -1,61 +1,49 @@
 -- Equal halves need no row; a row found or added holds the edges, the low one not inverted.
 -- No loop.
-use Rattle.bdd_unique.proofs.MakeLaws.{MakeAsked, Searched, make_added, make_found, make_full, make_row, make_same}
-use native.Mathlib.Numerals.{add-one}
-use native.Mathlib.Omega.{arith}
+use Rattle.bdd_unique.proofs.MakeLaws.{Edges, MakeAsked, added_one, make_added, make_found, make_full, make_row, make_same}
+use mathlib.Core.Path.{refl}
 use Rattle.bdd_unique.proofs.make.Goals as goal
-use Rattle.bdd_unique.proofs.make.Goals.{After-find-i, Start}
+use Rattle.bdd_unique.proofs.make.Goals.{After-edge_to-b, Start}
 
 -- What the call is given.
-begun : (c : Start) → MakeAsked c.args.rows.now c.args.limit c.args.used c.args.level c.args.low c.args.high
+begun : (c : Start) → let s = c.args.store.now in MakeAsked s.rows.now s.limit s.used c.args.level c.args.low c.args.high
 begun c =
-    record { store = c.requires.store; deep = c.requires.level.0; small = c.requires.level.1; low = c.requires.low; high = c.requires.high }
+    record { store = c.args.store.now.store; deep = c.requires.level.0; small = c.requires.level.1; low = c.requires.low; high = c.requires.high }
 
--- What is known once the row was looked for.
-looked_up : (c : After-find-i) → Searched c.args.rows.now c.args.used c.args.level c.args.low c.args.high c.edge_to-a.result c.edge_to-b.result c.find-i.result
-looked_up c =
-    record { differ = c.if-low-high.false; low = c.edge_to-a.ensures; high = c.edge_to-b.ensures; found = c.find-i.ensures }
+-- The edges of the row.
+edges : (c : After-edge_to-b) → Edges c.args.low c.args.high c.edge_to-a.result c.edge_to-b.result
+edges c = record { differ = c.if-low-high.false; low = c.edge_to-a.ensures; high = c.edge_to-b.ensures }
 
-pub returns-then-low-high : goal.returns-then-low-high
-returns-then-low-high c =
-    let asked = begun ((goal.at.returns-then-low-high c).Start) in
-    make_same asked c.if-low-high.true
+pub returns-then-low-high-clause-made : goal.returns-then-low-high-clause-made
+returns-then-low-high-clause-made c =
+    make_same (begun ((goal.at.returns-then-low-high-clause-made c).Start)) c.if-low-high.true
 
-pub find-i-requires : goal.find-i-requires
-find-i-requires c =
-    let asked = begun ((goal.at.find-i-requires c).Start) in
-    record {
-      store = c.requires.store;
-      row = make_row asked c.if-low-high.false c.edge_to-a.ensures c.edge_to-b.ensures;
-    }
+pub find-requires : goal.find-requires
+find-requires c =
+    let at = goal.at.find-requires c in
+    make_row (begun at.Start) (edges at.After-edge_to-b)
 
-pub overflow_mul-i : goal.overflow_mul-i
-overflow_mul-i c =
-    omega (arith, (c.find-i.ensures.found (omega (arith, c.if-i-ne0.true))).0, c.requires.store.room.used, c.requires.store.room.small)
+pub returns-in-Some-clause-made : goal.returns-in-Some-clause-made
+returns-in-Some-clause-made c =
+    let at = goal.at.returns-in-Some-clause-made c in
+    make_found (begun at.Start) (edges at.After-edge_to-b) c.in-Some.ensures c.edge_to.ensures
 
-pub returns-then-i-ne0 : goal.returns-then-i-ne0
-returns-then-i-ne0 c =
-    let asked = begun ((goal.at.returns-then-i-ne0 c).Start) in
-    let searched = looked_up ((goal.at.returns-then-i-ne0 c).After-find-i) in
-    make_found asked searched c.if-i-ne0.true c.edge_to.ensures
+pub returns-then-used-store-clause-made : goal.returns-then-used-store-clause-made
+returns-then-used-store-clause-made c =
+    let at = goal.at.returns-then-used-store-clause-made c in
+    (make_full (begun at.Start) (edges at.After-edge_to-b) c.in_default.ensures c.if-used-store.true, refl)
 
-pub returns-then-used-limit : goal.returns-then-used-limit
-returns-then-used-limit c =
-    let asked = begun ((goal.at.returns-then-used-limit c).Start) in
-    let searched = looked_up ((goal.at.returns-then-used-limit c).After-find-i) in
-    make_full asked searched c.if-i-ne0.false c.if-used-limit.true
+pub add-requires-clause-row : goal.add-requires-clause-row
+add-requires-clause-row c =
+    let at = goal.at.add-requires-clause-row c in
+    make_row (begun at.Start) (edges at.After-edge_to-b)
 
-pub add-requires : goal.add-requires
-add-requires c =
-    let asked = begun ((goal.at.add-requires c).Start) in
-    let room = c.requires.store.room in record {
-      room = record { used = omega (arith, room.used, c.if-used-limit.false); small = room.small; long = room.long };
-      row = make_row asked c.if-low-high.false c.edge_to-a.ensures c.edge_to-b.ensures;
-    }
+pub invariant_of-store : goal.invariant_of-store
+invariant_of-store c =
+    let at = goal.at.invariant_of-store c in
+    record { store = added_one (begun at.Start) (edges at.After-edge_to-b) c.in_default.ensures c.if-used-store.false c.add.ensures }
 
-pub returns : goal.returns
-returns c =
-    let asked = begun ((goal.at.returns c).Start) in
-    let searched = looked_up ((goal.at.returns c).After-find-i) in
-    let next = add-one c.args.used in
-    rw next (make_added asked searched c.if-i-ne0.false c.if-used-limit.false c.add.ensures (rw next at c.edge_to-2.ensures))
+pub returns-clause-made : goal.returns-clause-made
+returns-clause-made c =
+    let at = goal.at.returns-clause-made c in
+    make_added (begun at.Start) (edges at.After-edge_to-b) c.in_default.ensures c.if-used-store.false c.add.ensures c.edge_to-2.ensures

@@ -1,10 +1,9 @@
 -- Rows found, added and given back.
-use Rattle.std.specs.Prelude.{◌%◌, ◌*◌, ◌+◌, ◌-◌, ◌/◌, ◌<◌, ◌≤◌, suc, zero, ℕ, ◌&&◌, cond, false, not, true, List, ◌∷◌, ◌≢◌, ◌≡◌}
+use Rattle.std.specs.Prelude.{◌%◌, ◌*◌, ◌+◌, ◌-◌, ◌/◌, ◌<◌, ◌≤◌, suc, zero, ℕ, ◌&&◌, cond, false, not, true, List, None, Option, Some, ◌∷◌, ◌≢◌, ◌≡◌}
 use Rattle.bdd.specs.Diagram.{Reference, denote, store_of}
 use Rattle.bdd.specs.code.Rows.{MARK, RADIX, head_at, high_at, level_at, low_at, next_at, owner_at, put}
 use Rattle.bdd.specs.code.Store.{Kept, Store, bucket, bucket_of}
-use Rattle.bdd_unique.specs.declared.Made.TheVariants.{At, Full}
-use Rattle.bdd_unique.specs.declared.Made.{Made}
+use Rattle.bdd.specs.declared.store.RowStore.{RowStore}
 use Rattle.truth.specs.Distinct.{among}
 use Rattle.truth.specs.Parts.{alike?, depends?}
 unfoldable pub use Rattle.truth.specs.Parts.{plain}
@@ -27,10 +26,20 @@ pub record NewRow (rows : List ℕ) (n m a b : ℕ) : Type 0 where
   pub plain : a % 2 ≡ 0
   pub differ : a ≢ b
 
--- The row from 1 to n that holds m, a and b; 0 where there is none.
-pub record Found (rows : List ℕ) (n m a b i : ℕ) : Type 0 where
-  pub found : 1 ≤ i → (i ≤ n) × Is rows i m a b
-  pub absent : i ≡ 0 → (j : ℕ) → 1 ≤ j → j ≤ n → Is rows j m a b → ⊥
+-- The row i, from 1 to n, holds m, a and b.
+pub record FoundAt (rows : List ℕ) (n m a b i : ℕ) : Type 0 where
+  pub pos : 1 ≤ i
+  pub stored : i ≤ n
+  pub is : Is rows i m a b
+
+-- No row from 1 to n holds them.
+pub record Absent (rows : List ℕ) (n m a b : ℕ) : Type 0 where
+  pub none : (i : ℕ) → 1 ≤ i → i ≤ n → Is rows i m a b → ⊥
+
+-- What `find` gives, by its answer.
+abbrev pub Found : List ℕ → ℕ → ℕ → ℕ → ℕ → Option ℕ → Type 0
+Found rows n m a b (Some i) = FoundAt rows n m a b i
+Found rows n m a b None = Absent rows n m a b
 
 -- Row n + 1 written, without mark and owner, and made the head of its bucket.
 unfoldable pub added : List ℕ → ℕ → ℕ → ℕ → ℕ → ℕ → List ℕ
@@ -80,10 +89,14 @@ pub record MadeFull (s t : List ℕ) (limit n level a b : ℕ) : Type 0 where
   pub absent : among alike? (join s level a b) (store_of s n) ≡ false
   pub same : t ≡ s
 
--- What `make` gives, by its answer: a reference and the rows then used, or no row left.
-abbrev pub Makes : List ℕ → List ℕ → ℕ → ℕ → ℕ → ℕ → ℕ → Made → Type 0
-Makes s t limit n level a b (At r u) = MadeAt s t limit n level a b r u
-Makes s t limit n level a b Full = MadeFull s t limit n level a b
+-- What `make` gives, by its answer: a reference and the u rows then used, or no row left.
+abbrev pub Makes : List ℕ → List ℕ → ℕ → ℕ → ℕ → ℕ → ℕ → ℕ → Option ℕ → Type 0
+Makes s t limit n u level a b (Some r) = MadeAt s t limit n level a b r u
+Makes s t limit n u level a b None = MadeFull s t limit n level a b × (u ≡ n)
+
+-- The same of a store.
+abbrev pub MakesIn : RowStore → RowStore → ℕ → ℕ → ℕ → Option ℕ → Type 0
+MakesIn s t level a b answer = Makes s.rows.now t.rows.now s.limit s.used t.used level a b answer
 
 -- A store without rows.
 pub record Cleared (s t : List ℕ) (limit : ℕ) : Type 0 where

@@ -6,7 +6,6 @@ use Rattle.compare_copy.proofs.copy_rows.Goals as goal
 
 pub returns : goal.returns
 returns c =
-    let made = c.made-made in
     let inputs = c.inputs-first in
-    rows_copied c.args.table.now c.args.pairs.now c.write_own.new.pairs c.copy.new.to (search rules)
-    (rw inputs.ensures at c.write_own.ensures) (rw (inputs.ensures, made.ensures) at c.copy.ensures.list)
+    rows_copied c.args.table.now.words.now c.args.pairs.now c.write_own.new.pairs c.copy.new.to (search rules)
+    (rw inputs.ensures at c.write_own.ensures) (rw (inputs.ensures, c.rows.ensures) at c.copy.ensures.list)

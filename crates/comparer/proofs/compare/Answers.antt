@@ -2,50 +2,55 @@
 -- The laws say it of the arguments as given.
 use Rattle.compare_model.proofs.RefusalLaws.{passed}
 use Rattle.compare_model.specs.Compare.{Given}
+use Rattle.compare_model.specs.Said.{replied, said_of}
+use Rattle.refusal.proofs.NumberLaws.{passed_on}
 use Rattle.comparer.proofs.CompareLaws.{finished, finishes, refusal_found, turned_back_lem}
-use Rattle.comparer.specs.Lent.{given, holding}
-use mathlib.Core.Path.{◌∙◌, refl, sym}
+use Rattle.comparer.specs.Lent.{given, holding, left}
+use mathlib.Core.Path.{◌∙◌, ap, refl, sym}
 use Rattle.comparer.proofs.compare.Goals as goal
 
-pub returns-then-number-ne0 : goal.returns-then-number-ne0
-returns-then-number-ne0 c =
-    let number = c.first_refusal-number in
+pub returns-in_err-words-clause-compared : goal.returns-in_err-words-clause-compared
+returns-in_err-words-clause-compared c =
     let a = c.args in
-    let g : Given = given a.output a.limits (holding a.table.now a.pairs.now a.look.now a.diagrams.now a.stages.now a.rows.now a.marks.now a.setting.now) in
+    let g : Given = given a.output a.limits (holding a.table.now a.lent.now) in
     record {
-      result = turned_back_lem g number.result (refusal_found g number.result number.ensures) c.if-number-ne0.true;
+      result =
+          ap (λ r. left (said_of r) g.table g.marks g.setting) (passed_on c.from_residual.result _ c.from_residual.ensures)
+          ∙ turned_back_lem g _ (refusal_found g _ (rw c.lengths.ensures at c.in_err-words.ensures.refusal));
       kept = λ h. record { pairs = refl; look = refl; diagrams = refl; stages = refl; rows = refl };
     }
 
 pub run-ended-requires : goal.run-ended-requires
 run-ended-requires c =
-    let number = c.first_refusal-number in
     let a = c.args in
-    let g : Given = given a.output a.limits (holding a.table.now a.pairs.now a.look.now a.diagrams.now a.stages.now a.rows.now a.marks.now a.setting.now) in
-    let p = passed g (sym (refusal_found g number.result number.ensures) ∙ c.if-number-ne0.false) in record {
-      accepted = p.table;
-      known = p.output;
+    let g : Given = given a.output a.limits (holding a.table.now a.lent.now) in
+    let p = passed g (sym (refusal_found g _ (rw c.lengths.ensures at c.in_ok-words.ensures.refusal))) in record {
+      accepted = rw c.in_ok-words.ensures.table p.table;
+      known = rw c.in_ok-words.ensures.table p.output;
       within = p.limits;
-      room = p.room;
+      room = rw c.in_ok-words.ensures.table p.room;
     }
 
 pub finish-requires : goal.finish-requires
 finish-requires c =
-    let number = c.first_refusal-number in
     let a = c.args in
-    let g : Given = given a.output a.limits (holding a.table.now a.pairs.now a.look.now a.diagrams.now a.stages.now a.rows.now a.marks.now a.setting.now) in
-    let p = passed g (sym (refusal_found g number.result number.ensures) ∙ c.if-number-ne0.false) in
-    finishes g c.run-ended.new.pairs c.run-ended.new.rows c.run-ended.new.marks c.run-ended.result (c.run-ended.ensures (record { entry = a.setting; exit = a.setting })) p
+    let g : Given = given a.output a.limits (holding a.table.now a.lent.now) in
+    let p = passed g (sym (refusal_found g _ (rw c.lengths.ensures at c.in_ok-words.ensures.refusal))) in
+    let run = c.run-ended in
+    rw run.ensures.setting_kept (finishes g run.new.lent.pairs.now run.new.lent.rows.now run.new.lent.marks.now run.result (rw c.in_ok-words.ensures.table at run.ensures.swept) p)
 
-pub returns : goal.returns
-returns c =
-    let number = c.first_refusal-number in
+pub returns-clause-compared : goal.returns-clause-compared
+returns-clause-compared c =
     let a = c.args in
-    let g : Given = given a.output a.limits (holding a.table.now a.pairs.now a.look.now a.diagrams.now a.stages.now a.rows.now a.marks.now a.setting.now) in
-    let h = sym (refusal_found g number.result number.ensures) ∙ c.if-number-ne0.false in
+    let g : Given = given a.output a.limits (holding a.table.now a.lent.now) in
+    let h = sym (refusal_found g _ (rw c.lengths.ensures at c.in_ok-words.ensures.refusal)) in
+    let run = c.run-ended in
+    let finish = c.finish in
     record {
       result =
-          finished g c.run-ended.new.pairs c.run-ended.new.rows c.run-ended.new.marks c.run-ended.result (c.run-ended.ensures (record { entry = a.setting; exit = a.setting })) h
-          c.finish.result c.finish.new.table c.finish.new.setting c.finish.ensures.table_after c.finish.ensures.setting_after c.finish.ensures.result_value;
+          ap (λ m. left (replied finish.result) finish.new.table m.now finish.new.lent.setting.now) finish.ensures.marks_kept
+          ∙ finished g run.new.lent.pairs.now run.new.lent.rows.now run.new.lent.marks.now run.result (rw c.in_ok-words.ensures.table at run.ensures.swept) h
+          finish.result finish.new.table finish.new.lent.setting.now finish.ensures.table_after
+          (rw run.ensures.setting_kept at finish.ensures.setting_after) finish.ensures.result_value;
       kept = λ n. absurd (n h);
     }

@@ -3,6 +3,7 @@ use Rattle.std.specs.Prelude.{◌*◌, ◌+◌, ◌≤◌, ℕ, length, take, Li
 use Rattle.bdd.specs.code.Store.{Store}
 use Rattle.compare_model.specs.Compare.{Given, answer_to, limits_of, max_rows, max_steps, next_rows, over_front, problem_of}
 use Rattle.compare_model.specs.declared.Limits.{Limits as Asked}
+use Rattle.compare_reply.specs.code.Followed.{Followed}
 use Rattle.comparer.specs.Lent.{Slices, given}
 use Rattle.sweep_state.specs.code.Ending.{Refers, verdict_of}
 use Rattle.sweep_state.specs.code.Words.{posed}
@@ -10,7 +11,6 @@ use Rattle.sweep_state.specs.declared.end.Ended.{Ended}
 use Rattle.sweep_state.specs.declared.task.Task.{Task}
 use Rattle.table.specs.Accepted.{Accepted}
 use Rattle.table.specs.Table.{inputs_of, vertices_of}
-use denote.Triple.Both.{Both}
 
 -- A task is that of a table's output: with the functions of the comparison's problem it poses it, and its vertices are the table's and the next ones.
 pub record Posed (table : List ℕ) (output : ℕ) (limits : Asked) (t : Task) : Type 0 where
@@ -36,15 +36,14 @@ pub record SweepRan (g : Given) (pairs rows marks : List ℕ) (e : Ended) : Type
   pub counted : e.steps ≤ max_steps
 
 -- The same, by the slices of the comparison.
-abbrev pub Swept : ℕ → Asked → Both Slices Slices → Ended → Type 0
-Swept output limits s e = SweepRan (given output limits s.entry) s.exit.pairs s.exit.rows s.exit.marks e
+abbrev pub Swept : ℕ → Asked → Slices → Slices → Ended → Type 0
+Swept output limits before after e = SweepRan (given output limits before) after.pairs after.rows after.marks e
 
 -- What finishing needs.
-pub record Finishes (table pairs rows : List ℕ) (limit : ℕ) (e : Ended) (setting : ℕ) : Type 0 where
+pub record Finishes (table pairs rows : List ℕ) (e : Ended) (setting : ℕ) : Type 0 where
   pub accepted : Accepted table
   pub long : 2 * vertices_of table ≤ length pairs
   pub room : inputs_of table ≤ setting
-  pub store : Store rows limit e.used
-  pub refers : Refers rows e.used (inputs_of table) e.end
+  pub followed : Followed rows (inputs_of table) e.end
   pub within : e.used + e.added ≤ max_rows
   pub counted : e.steps ≤ max_steps

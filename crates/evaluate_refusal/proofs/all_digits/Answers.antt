@@ -1,25 +1,17 @@
-use Rattle.evaluate_model.proofs.DigitLaws.{all_digits_step}
-use Rattle.evaluate_model.specs.Evaluate.{all_digits?}
-use borrow.Author.Rules.{rules}
-use lib.ListN.{drop_of_length-le}
-use mathlib.Core.Path.{refl}
+-- The library's test of all items is the definition's.
+use Rattle.std.proofs.Common.{◌≡◌, ℕ, List, [], ◌∷◌, refl, ◌∙◌, rules, tests}
+use Rattle.std.specs.List.{list_all}
+use Rattle.std.proofs.lemmas.Iterator.{YieldsList-from_slice}
+use Rattle.std.proofs.lemmas.Iterator.Search.{all_from_yields_List}
+use Rattle.evaluate_model.specs.Evaluate.{all_digits?, digit?}
 use Rattle.evaluate_refusal.proofs.all_digits.Goals as goal
 
-pub loop-i-init : goal.loop-i-init
-loop-i-init c = (search rules, refl)
-
-pub returns-then-not-is_digit : goal.returns-then-not-is_digit
-returns-then-not-is_digit c =
-    let byte = c.is_digit in
-    let at-loop = c.loop-i in
-    rw (at-loop.invariant.1, all_digits_step _ _ c.loop-i-test.true, ← byte.ensures, c.if-not-is_digit.true) refl
-
-pub loop-i-preserved : goal.loop-i-preserved
-loop-i-preserved c =
-    let byte = c.is_digit in
-    let at-loop = c.loop-i in
-    (search rules, rw (at-loop.invariant.1, all_digits_step _ _ c.loop-i-test.true, ← byte.ensures, c.if-not-is_digit.false) refl)
+all-digits : (bs : List ℕ) → list_all digit? bs ≡ all_digits? bs
+unfolding all_digits?
+all-digits [] = refl
+all-digits (b ∷ bs) = rw (all-digits bs) refl
 
 pub returns : goal.returns
-unfolding all_digits?
-returns c = rw (c.loop-i.invariant.1, drop_of_length-le _ c.loop-i-test.false) refl
+returns c =
+    let bs = c.args.setting.now in
+    all_from_yields_List digit? _ _ c.all.result c.all.ensures.ran (YieldsList-from_slice bs cc) (λ x b q k. search (rules, tests)) ∙ all-digits bs

@@ -1,12 +1,11 @@
--- The second test is made where the first fails; no loop.
+use Rattle.std.proofs.Common.{rules, tests}
 use Rattle.evaluate_model.specs.Evaluate.{digit?}
-use borrow.Author.Tests.{eq-eqb, ne_eqb}
 use Rattle.evaluate_refusal.proofs.is_digit.Goals as goal
 
 pub returns-then-byte-eq-DIGIT_ZERO : goal.returns-then-byte-eq-DIGIT_ZERO
 unfolding digit?
-returns-then-byte-eq-DIGIT_ZERO c = rw (eq-eqb _ _ c.if-byte-eq-DIGIT_ZERO.true)
+returns-then-byte-eq-DIGIT_ZERO c = search (rules, tests)
 
 pub returns-else-byte-eq-DIGIT_ZERO : goal.returns-else-byte-eq-DIGIT_ZERO
 unfolding digit?
-returns-else-byte-eq-DIGIT_ZERO c = rw (ne_eqb _ _ c.if-byte-eq-DIGIT_ZERO.false)
+returns-else-byte-eq-DIGIT_ZERO c = search (rules, tests)

@@ -2,29 +2,37 @@
 -- At a refusal nothing has been written.
 use Rattle.load_model.specs.Load.{accepted, table_after}
 use Rattle.load.proofs.Deciding.{goes_on, goes-table, refusal_result}
+use Rattle.netlist_model.specs.Limits.{number_of_edition}
+use Rattle.std.proofs.lemmas.Result.{err_from_is_err_and}
 use mathlib.Core.Path.{◌∙◌, ap, refl, sym}
 use Rattle.load.proofs.load.Goals as goal
 
-pub load_pair-tally-requires : goal.load_pair-tally-requires
-load_pair-tally-requires c =
-    let g = goes_on _ _ _ c.decide-decision.ensures c.in-Go.is in record {
-      files = g.agreed;
-      room = g.enough;
-      table = g.table;
-    }
+pub returns-in_err-one-clause-result : goal.returns-in_err-one-clause-result
+returns-in_err-one-clause-result c =
+    let p = err_from_is_err_and c.from_residual.result c.from_residual.ensures.1 in
+    rw (p.1, p.2) (sym (refusal_result _ _ _ (rw (c.lengths-lengths.ensures, c.in_err-one.was) at c.decide.ensures) refl))
 
-pub returns-in-Refused : goal.returns-in-Refused
+pub returns-in_err-one-clause-table : goal.returns-in_err-one-clause-table
 unfolding table_after
-returns-in-Refused c = record {
-  result = sym (refusal_result _ _ _ c.decide-decision.ensures c.in-Refused.is);
-  table = refl;
-  kept = refl;
-}
+returns-in_err-one-clause-table c = let p = err_from_is_err_and c.from_residual.result c.from_residual.ensures.1 in rw p.1 refl
 
-pub returns-in-Go : goal.returns-in-Go
-returns-in-Go c =
-    let g = goes_on _ _ _ c.decide-decision.ensures c.in-Go.is in record {
-      result = ap (accepted c.in-Go.one.edition) c.load_pair-tally.ensures.result ∙ sym g.result;
-      table = c.load_pair-tally.ensures.table ∙ sym (goes-table _ _ _ g _ _ _);
-      kept = tt;
-    }
+pub load_pair-tally-requires-clause-files : goal.load_pair-tally-requires-clause-files
+load_pair-tally-requires-clause-files c = (goes_on _ _ _ (rw c.lengths-lengths.ensures at c.in_ok-one.ensures) refl).agreed
+
+pub load_pair-tally-requires-clause-room : goal.load_pair-tally-requires-clause-room
+load_pair-tally-requires-clause-room c =
+    let e = (goes_on _ _ _ (rw c.lengths-lengths.ensures at c.in_ok-one.ensures) refl).enough in
+    record { for_pairs = e.pairs; for_look = e.look; for_literals = e.literals; for_outputs = e.outputs }
+
+pub load_pair-tally-requires-clause-table : goal.load_pair-tally-requires-clause-table
+load_pair-tally-requires-clause-table c = (goes_on _ _ _ (rw c.lengths-lengths.ensures at c.in_ok-one.ensures) refl).enough.table
+
+pub returns-clause-result : goal.returns-clause-result
+returns-clause-result c =
+    ap (accepted (number_of_edition c.in_ok-one.one.edition)) c.load_pair-tally.ensures.result
+    ∙ sym (goes_on _ _ _ (rw c.lengths-lengths.ensures at c.in_ok-one.ensures) refl).result
+
+pub returns-clause-table : goal.returns-clause-table
+returns-clause-table c =
+    c.load_pair-tally.ensures.table
+    ∙ sym (goes-table _ _ _ (goes_on _ _ _ (rw c.lengths-lengths.ensures at c.in_ok-one.ensures) refl) _ _ _)

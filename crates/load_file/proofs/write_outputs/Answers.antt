@@ -8,12 +8,6 @@ loop-k-init c = outputs-begin c.args.literals.now _ _ c.requires.lines
 pub output_literal-requires : goal.output_literal-requires
 output_literal-requires c = outputs-due c.loop-k.invariant c.loop-k-test.true
 
-pub offset_bounds-outputs-k : goal.offset_bounds-outputs-k
-offset_bounds-outputs-k c = omega (arith, c.loop-k-test.true, c.requires.room)
-
-pub bounds-outputs-k : goal.bounds-outputs-k
-bounds-outputs-k c = omega (arith, c.loop-k.invariant.writing.same, c.loop-k-test.true, c.requires.room)
-
 pub line_end-at-requires : goal.line_end-at-requires
 line_end-at-requires c = outputs-ended c.loop-k.invariant c.loop-k-test.true
 

@@ -2,20 +2,19 @@
 use Rattle.std.specs.Prelude.{◌*◌, ◌+◌, ◌<◌, ◌≤◌, ℕ, drop, length, List, [], ◌++◌, ◌∷◌, map, ◌≡◌}
 use Rattle.aig.specs.Literal.{vertex_of}
 use Rattle.load_graph.specs.code.Slices.{traced_of}
-use Rattle.load_graph.specs.declared.Counts.{Counts}
+use Rattle.load_graph.specs.declared.Builder.{Builder}
 use Rattle.load_model.specs.Build.{FileBuilt, Traced, ask_gates}
 use Rattle.netlist_model.specs.Check.{ands_of, constraints_in, gates_in, outputs_in}
 use Rattle.netlist_model.specs.Meaning.{and_count}
-use Rattle.netlist_model.specs.Netlist.{AllBelow, Downward, Gate, gate_record}
+use Rattle.netlist_model.specs.Netlist.{AllBelow, Downward, Gate, constraint_record, gate_record, output_record}
 use Rattle.netlist_model.specs.Records.{record_of}
 use Rattle.netlist_model.specs.code.Passing.{file_records}
-use Rattle.netlist_model.specs.declared.Record.TheVariants.{Constraint, Output}
 use Rattle.table.specs.Limits.{max_ands}
 use Rattle.text.specs.Split.{up_to}
 
--- The literals of a file's first n vertices, and the graph, in their slices.
-abbrev pub trace : List ℕ → ℕ → List ℕ → Counts → Traced
-trace literals n pairs counts = traced_of literals n pairs counts
+-- The literals of a file's first n vertices, in their slice, and the graph.
+abbrev pub trace : List ℕ → ℕ → Builder → Traced
+trace literals n graph = traced_of literals n graph.pairs.now graph.counts
 
 -- A file's output literals and then that of its constraint.
 abbrev pub with_constraint : FileBuilt → List ℕ
@@ -38,7 +37,7 @@ pub record GateLine (file : List ℕ) (at v asked : ℕ) : Type 0 where
 pub record OutputLine (file : List ℕ) (at n : ℕ) : Type 0 where
   pub reference : ℕ
   pub inside : at ≤ length file
-  pub this : record_of (up_to 10 (drop at file)) ≡ Output reference
+  pub this : record_of (up_to 10 (drop at file)) ≡ output_record reference
   pub below : vertex_of reference < n
 
 -- The lines from a place on are those of as many gates as are counted, the first of them the file's vertex v, and those of outputs and
@@ -48,7 +47,7 @@ pub record GatesAhead (file : List ℕ) (at count v asked : ℕ) : Type 0 where
   pub outputs : List ℕ
   pub constraints : List ℕ
   pub inside : at ≤ length file
-  pub records : file_records (drop at file) ≡ map gate_record gates ++ (map Output outputs ++ map Constraint constraints)
+  pub records : file_records (drop at file) ≡ map gate_record gates ++ (map output_record outputs ++ map constraint_record constraints)
   pub counted : length gates ≡ count
   pub downward : Downward v gates
   pub room : asked + and_count gates ≤ max_ands
@@ -58,13 +57,13 @@ pub record GatesPassed (file : List ℕ) (start : ℕ) (before after : Traced) (
   pub asked : after ≡ ask_gates before (gates_in (file_records (drop start file)))
   pub inside : at ≤ length file
   pub records : file_records (drop at file)
-      ≡ map Output (outputs_in (file_records (drop start file))) ++ map Constraint (constraints_in (file_records (drop start file)))
+      ≡ map output_record (outputs_in (file_records (drop start file))) ++ map constraint_record (constraints_in (file_records (drop start file)))
 
 -- The lines from a place on are those of as many outputs as are counted, whose references name some of n vertices, and those of constraints.
 pub record OutputsAhead (file : List ℕ) (at count n : ℕ) : Type 0 where
   pub references : List ℕ
   pub constraints : List ℕ
   pub inside : at ≤ length file
-  pub records : file_records (drop at file) ≡ map Output references ++ map Constraint constraints
+  pub records : file_records (drop at file) ≡ map output_record references ++ map constraint_record constraints
   pub counted : length references ≡ count
   pub below : AllBelow (2 * n) references

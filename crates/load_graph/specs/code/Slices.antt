@@ -1,9 +1,9 @@
 -- The graph and a file's literals in the lent slices.
 use Rattle.std.specs.Prelude.{◌*◌, ◌+◌, ◌<◌, ◌≤◌, ℕ, length, take, List}
 use Rattle.aig.specs.Lookup.{Indexed}
+use Rattle.aig.specs.declared.literal.Literal.{Literal}
 use Rattle.load_model.specs.Build.{Build, Built, Traced}
 use Rattle.load_model.specs.Load.{max_vertices}
-use Rattle.load_graph.specs.declared.Asked.{Asked}
 use Rattle.load_graph.specs.declared.Counts.{Counts}
 use Rattle.load_graph.specs.declared.Ended.TheVariants.{Folded, Found, Made}
 use Rattle.load_graph.specs.declared.Ended.{Ended}
@@ -15,8 +15,8 @@ build_of pairs c =
     record { words = take (2 * c.vertices) pairs; count = c.vertices; asked = c.asked; folded = c.folded; found = c.found }
 
 -- What was asked for, and the graph after it.
-abbrev pub built_of : List ℕ → Asked → Built
-built_of pairs a = record { literal = a.literal.0; build = build_of pairs a.counts }
+abbrev pub built_of : Literal → List ℕ → Counts → Built
+built_of r pairs c = record { literal = r.0; build = build_of pairs c }
 
 -- The literals of a file's first n vertices, and the graph.
 abbrev pub traced_of : List ℕ → ℕ → List ℕ → Counts → Traced

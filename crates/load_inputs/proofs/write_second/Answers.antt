@@ -4,10 +4,10 @@ use Rattle.load_model.specs.code.Paired.{second_literals}
 use borrow.Author.Tests.{eq-eqb, ne_eqb}
 use Rattle.load_inputs.proofs.write_second.Goals as goal
 
-pub returns-then-edition-eq-BY_NAME : goal.returns-then-edition-eq-BY_NAME
+pub returns-then-edition-from : goal.returns-then-edition-from
 unfolding second_literals
-returns-then-edition-eq-BY_NAME c = rw (eq-eqb _ _ c.if-edition-eq-BY_NAME.true) c.write_by_name.ensures
+returns-then-edition-from c = rw (eq-eqb _ 2 (rw c.from.ensures at c.if-edition-from.true)) c.write_by_name.ensures
 
 pub returns : goal.returns
 unfolding second_literals
-returns c = rw (ne_eqb _ _ c.if-edition-eq-BY_NAME.false) c.write_by_place.ensures
+returns c = rw (ne_eqb _ 2 (rw c.from.ensures at c.if-edition-from.false)) c.write_by_place.ensures

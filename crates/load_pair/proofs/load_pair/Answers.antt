@@ -1,27 +1,23 @@
 -- The graph of both files, and then its table; no loop.
 -- The ANDs are few enough for the rows to have room in the table.
-use Rattle.load_file.proofs.FileLoading.{inputs-few}
 use Rattle.load_pair.proofs.PairLoading.{count-within, table_is, table-room, tally-is}
 use mathlib.Core.Path.{◌∙◌, refl}
 use native.Mathlib.Omega.{arith}
 use Rattle.load_pair.proofs.load_pair.Goals as goal
 
-pub overflow_add-first : goal.overflow_add-first
-overflow_add-first c = omega (arith, inputs-few c.requires.files.left)
-
 pub write_table-requires : goal.write_table-requires
 write_table-requires c =
-    table-room c.requires.files c.build_pair-counts.ensures.result c.requires.table (omega (arith, c.requires.room.for_pairs))
-    (omega (arith, c.requires.room.for_outputs))
+    table-room c.requires.files c.build_pair-counts.ensures.result c.requires.table (omega (arith, c.build_pair-counts.ensures.same.long_pairs, c.requires.room.for_pairs))
+    (omega (arith, c.build_pair-counts.ensures.same.long_outputs, c.requires.room.for_outputs))
 
 pub overflow_sub-result : goal.overflow_sub-result
 overflow_sub-result c = count-within c.requires.files c.build_pair-counts.ensures.result
 
-pub returns : goal.returns
-returns c =
-    let h = c.build_pair-counts.ensures.result in record {
-      result = tally-is c.requires.files h;
-      table = c.write_table.ensures
-          ∙ table_is c.requires.files h c.args.table.now c.build_pair-counts.new.pairs refl c.build_pair-counts.ensures.outputs
-          (omega (arith, c.requires.room.for_pairs));
-    }
+pub returns-clause-result : goal.returns-clause-result
+returns-clause-result c = tally-is c.requires.files c.build_pair-counts.ensures.result
+
+pub returns-clause-table : goal.returns-clause-table
+returns-clause-table c =
+    c.write_table.ensures
+    ∙ table_is c.requires.files c.build_pair-counts.ensures.result c.args.table.now c.build_pair-counts.new.working.pairs.now refl c.build_pair-counts.ensures.outputs
+    (omega (arith, c.build_pair-counts.ensures.same.long_pairs, c.requires.room.for_pairs))

@@ -1,7 +1,9 @@
 -- Both files in the lent slices, and the table.
 use Rattle.std.specs.Prelude.{◌*◌, ◌+◌, ◌-◌, ◌≤◌, ℕ, drop, get_or, length, take, List, [], ◌++◌, ◌∷◌, ◌≡◌}
 use Rattle.load_model.specs.Build.{PairBuilt, build_pair}
+use Rattle.load_model.specs.Lent.{Working}
 use Rattle.load_model.specs.Load.{max_vertices}
+use Rattle.load_model.specs.declared.Accepted.{Accepted}
 use Rattle.netlist_model.specs.Names.{Among}
 use Rattle.netlist_model.specs.Netlist.{Netlist}
 use Rattle.netlist_model.specs.Pairing.{paired}
@@ -38,19 +40,29 @@ pub record Agreed (one two : List ℕ) (s t : Summary) : Type 0 where
   pub ands : s.ands + t.ands ≤ max_ands
 
 -- The working slices are long enough. (RULES 8.2)
-pub record Enough (pairs look literals outputs : ℕ) : Type 0 where
-  pub for_pairs : 2 * max_vertices ≤ pairs
-  pub for_look : 2 * max_vertices ≤ look
-  pub for_literals : 2 * max_vertices ≤ literals
-  pub for_outputs : 2 * max_vertices ≤ outputs
+pub record Enough (w : Working) : Type 0 where
+  pub for_pairs : 2 * max_vertices ≤ length w.pairs
+  pub for_look : 2 * max_vertices ≤ length w.look
+  pub for_literals : 2 * max_vertices ≤ length w.literals
+  pub for_outputs : 2 * max_vertices ≤ length w.outputs
 
 -- The second file's netlist with its inputs in the first file's order.
 abbrev pub second_of : List ℕ → List ℕ → Summary → Summary → Netlist
 second_of one two s t = paired (netlist_of one s) (netlist_of two t)
 
+-- The same, and what else is said of two files' lists and summaries, of two accepted files.
+abbrev pub second_held : Accepted → Accepted → Netlist
+second_held f g = second_of f.file.now g.file.now f.summary g.summary
+
+abbrev pub AgreedFiles : Accepted → Accepted → Type 0
+AgreedFiles f g = Agreed f.file.now g.file.now f.summary g.summary
+
 -- The graph of both files.
 abbrev pub pair_of : List ℕ → List ℕ → Summary → Summary → PairBuilt
 pair_of one two s t = build_pair (netlist_of one s) (second_of one two s t)
+
+abbrev pub pair_held : Accepted → Accepted → PairBuilt
+pair_held f g = pair_of f.file.now g.file.now f.summary g.summary
 
 -- The literals of both files' outputs and of the constraint are in their slice.
 pub record OutputsHeld (outputs : List ℕ) (b : PairBuilt) : Type 0 where

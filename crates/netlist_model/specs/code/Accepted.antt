@@ -1,6 +1,7 @@
 -- What an accepted file holds.
 use Rattle.std.specs.Prelude.{◌≤◌, ℕ, drop, length, List, [], ◌≡◌}
 use Rattle.netlist_model.specs.Check.{Counts, netlist_in, read, read_netlist, summary_counts}
+use Rattle.netlist_model.specs.Limits.{edition_of}
 use Rattle.netlist_model.specs.Meaning.{and_count}
 use Rattle.netlist_model.specs.Netlist.{Netlist, Within, body_records, bytes_of, constraint_reference, netlist_lines}
 use Rattle.netlist_model.specs.Records.{file_lines}
@@ -37,7 +38,7 @@ counts_in d =
 abbrev pub summary_with : ℕ → Counts → Summary
 summary_with start c =
     record {
-      edition = c.edition;
+      edition = edition_of c.edition;
       inputs = c.inputs;
       names = c.names;
       gates = c.gates;

@@ -1,24 +1,24 @@
 -- What holds while a file is passed line by line.
-use Rattle.std.specs.Prelude.{◌*◌, ◌+◌, ◌<◌, ◌≤◌, suc, zero, ℕ, eqb, drop, length, take, cond, List, [], ◌++◌, ◌∷◌, map, ◌≡◌}
-use Rattle.netlist_model.specs.Check.{due_after, line_tests, names_in}
-use Rattle.netlist_model.specs.Limits.{max_gates}
+use Rattle.std.specs.Prelude.{◌*◌, ◌+◌, ◌<◌, ◌≤◌, suc, zero, ℕ, eqb, drop, length, take, cond, List, [], ◌++◌, ◌∷◌, map, ◌≡◌, Option, None, Some, ◌||◌, ◌&&◌, Result, Err, Ok}
+use Rattle.netlist_model.specs.Check.{due_after, line_tests, names_in, suits?}
+use Rattle.netlist_model.specs.Limits.{by_name_edition, by_place_edition, edition_of, max_gates}
 use Rattle.netlist_model.specs.Records.{Line, file_lines, kind_of, line_of, malformed_line, name_line, records_in}
 use Rattle.netlist_model.specs.declared.Body.{Body}
-use Rattle.netlist_model.specs.declared.Checked.TheVariants.{Accepted, Refused}
-use Rattle.netlist_model.specs.declared.Checked.{Checked}
 use Rattle.netlist_model.specs.declared.Due.TheVariants.{First, Later}
 use Rattle.netlist_model.specs.declared.Due.{Due}
-use Rattle.netlist_model.specs.declared.Stepped.TheVariants.{Next, Refuse}
-use Rattle.netlist_model.specs.declared.Stepped.{Stepped}
-use Rattle.netlist_model.specs.declared.Record.TheVariants.{Malformed}
+use Rattle.netlist_model.specs.declared.edition.Edition.{Edition}
 use Rattle.netlist_model.specs.declared.Record.{Record}
+use Rattle.netlist_model.specs.declared.Rejected.{Rejected}
 use Rattle.netlist_model.specs.declared.Role.{Role}
+use Rattle.netlist_model.specs.declared.Summary.{Summary}
+use Rattle.refusal.specs.Number.{number_of}
+use Rattle.refusal.specs.declared.Refusal.{Refusal}
 use Rattle.table.specs.Limits.{max_inputs, max_outputs}
 use Rattle.table.specs.Refusals.{first_refusal}
 use Rattle.text.specs.Split.{has, up_to}
 
 -- The records of a file's lines.
-abbrev pub file_records : List ℕ → List Record
+abbrev pub file_records : List ℕ → List (Option Record)
 file_records bytes = records_in (file_lines bytes)
 
 -- The first of some bytes' lines: "2. The line is not an N, I, G, O or C record of this layout or has no end byte." (RULES 8.1)
@@ -26,14 +26,24 @@ unfoldable pub first_line : List ℕ → Line
 first_line bytes = cond (has 10 bytes) (line_of (up_to 10 bytes)) malformed_line
 
 -- Its record.
-abbrev pub line_record : List ℕ → Record
+abbrev pub line_record : List ℕ → Option Record
 line_record bytes = kind_of (first_line bytes)
 
 -- What a line comes to, by the names in earlier lines and by what is due: what is due next, or the number of the refusal that applies.
-unfoldable pub step_of : List (List ℕ) → Due → Line → Stepped
+unfoldable pub step_of : List (List ℕ) → Due → Line → Result Due ℕ
 step_of seen due l =
     let number : ℕ = first_refusal 0 (line_tests seen due l) in
-    cond (eqb number 0) (Next (due_after due (kind_of l))) (Refuse number)
+    cond (eqb number 0) (Ok (due_after due (kind_of l))) (Err number)
+
+-- The same with the refusal's number for the refusal.
+abbrev pub numbered : Result Due Refusal → Result Due ℕ
+numbered (Ok due) = Ok due
+numbered (Err refusal) = Err (number_of refusal)
+
+-- The edition with a number, where a file of a role may have it.
+abbrev pub known_edition : Role → ℕ → Option Edition
+known_edition role e =
+    cond ((eqb e by_place_edition || eqb e by_name_edition) && suits? role e) (Some (edition_of e)) None
 
 -- The place after the first k lines of a file.
 unfoldable pub place_after : List ℕ → ℕ → ℕ
@@ -44,9 +54,9 @@ place_after file (suc k) = place_after file k + length (up_to 10 (drop (place_af
 abbrev pub gates_at : List ℕ → ℕ → ℕ
 gates_at file names = place_after file (1 + names)
 
-abbrev pub StartsAt : List ℕ → Checked → Type 0
-StartsAt file (Accepted s) = s.start ≡ gates_at file s.names
-StartsAt file (Refused k n) = Unit
+abbrev pub StartsAt : List ℕ → Result Summary Rejected → Type 0
+StartsAt file (Ok s) = s.start ≡ gates_at file s.names
+StartsAt file (Err e) = Unit
 
 -- The counts of line 1 within their limits, and those kept within them.
 pub record Counted (b : Body) : Type 0 where
@@ -78,7 +88,7 @@ front_names count file = take count (names_in (drop 1 (file_lines file)))
 -- The lines after line 1 begin with those of some names.
 pub record Names (file : List ℕ) (names : List (List ℕ)) : Type 0 where
   pub first : Line
-  pub formed : kind_of first ≡ Malformed → ⊥
+  pub formed : kind_of first ≡ None → ⊥
   pub rest : List Line
   pub lines : file_lines file ≡ first ∷ (map name_line names ++ rest)
 
@@ -106,7 +116,7 @@ StartInside file (Later b) = b.name ≡ b.names → gates_at file b.names ≤ le
 -- The lines before a place, by what is due there: line 1, the names, and others, which come after the last name.
 pub record Passed (file : List ℕ) (at : ℕ) (b : Body) : Type 0 where
   pub first : Line
-  pub formed : kind_of first ≡ Malformed → ⊥
+  pub formed : kind_of first ≡ None → ⊥
   pub names : List (List ℕ)
   pub others : List Line
   pub lines : file_lines file ≡ first ∷ (map name_line names ++ (others ++ file_lines (drop at file)))

@@ -1,38 +1,39 @@
-use Rattle.netlist_model.proofs.NameLaws.{place_here, place-there}
-use Rattle.netlist_model.specs.Names.{place_of}
-use Rattle.netlist_names.proofs.Finding.{first_ended, here-name, here_record, walk_begins, walk_ended, walk_here, walk_next}
-use mathlib.Core.Path.{◌∙◌, sym}
-use native.Mathlib.Omega.{arith}
+-- The first of the names that is the one sought.
+use Rattle.netlist_model.proofs.FrontLaws.{front-count}
+use Rattle.netlist_model.specs.code.Passing.{front_names}
+use Rattle.netlist_names.proofs.Finding.{found_position, place_small}
+use Rattle.netlist_names.specs.code.Left.{names_left}
+use Rattle.std.proofs.Common.{◌∙◌, ◌≡◌, ap, arith, inl, length, rules, sym}
+use Rattle.std.proofs.lemmas.Iterator.Consumers.{YieldsList-from_first}
+use Rattle.std.proofs.lemmas.Iterator.Search.{position_from_yields_List}
+use Rattle.text.specs.Bytes.{same_bytes}
 use Rattle.netlist_names.proofs.find_name.Goals as goal
 
-pub line_end-at-requires : goal.line_end-at-requires
-line_end-at-requires c = first_ended c.requires
+pub position-requires-clause-fits : goal.position-requires-clause-fits
+position-requires-clause-fits c =
+    let e : length (names_left c.front_names.result) ≡ c.args.count = ap length c.front_names.ensures ∙ front-count c.requires in
+    inl (omega (arith, e, c.ranges.count.fits))
 
-pub loop-k-init : goal.loop-k-init
-loop-k-init c = rw c.line_end-at.ensures (walk_begins _ c.requires (omega arith))
+pub returns-in_err-place : goal.returns-in_err-place
+returns-in_err-place c =
+    c.from_residual.ensures ∙ sym c.in_err-place.was
+    ∙ position_from_yields_List {s = c.front_names.result} (same_bytes c.args.name.now) c.position.new.self _ _ c.position.ensures.ran
+    (YieldsList-from_first (λ name. name.now) names_left {s = c.front_names.result} (front_names c.args.count c.args.file.now) c.front_names.ensures)
+    (λ x b q k. search rules)
+    ∙ sym (found_position _ _)
 
-pub name_at-requires : goal.name_at-requires
-name_at-requires c = let n = walk_here _ c.loop-k.invariant c.loop-k-test.true in record {
-  at_in_bounds = omega (arith, n.ended);
-  file_value = here_record n;
-}
-
-pub returns-then-is_same : goal.returns-then-is_same
-returns-then-is_same c =
-    let n = walk_here _ c.loop-k.invariant c.loop-k-test.true in
-    let here = place_here c.args.name.now n.name n.rest (rw (here-name n c.name_at.ensures) at (sym c.is_same.ensures ∙ c.if-is_same.true)) in
-    omega (arith, here, n.holds)
-
-pub line_end-at-requires-in-loop-k : goal.line_end-at-requires-in-loop-k
-line_end-at-requires-in-loop-k c =
-    (walk_here _ c.loop-k.invariant c.loop-k-test.true).ended
-
-pub loop-k-preserved : goal.loop-k-preserved
-loop-k-preserved c =
-    let n = walk_here _ c.loop-k.invariant c.loop-k-test.true in
-    let there = place-there c.args.name.now n.name n.rest (rw (here-name n c.name_at.ensures) at (sym c.is_same.ensures ∙ c.if-is_same.false)) in
-    rw c.line_end-at-in-loop-k.ensures (walk_next n _ (omega (arith, there, n.holds)))
+pub overflow_cast-result : goal.overflow_cast-result
+overflow_cast-result c =
+    let r = sym c.in_ok-place.was
+    ∙ position_from_yields_List {s = c.front_names.result} (same_bytes c.args.name.now) c.position.new.self _ _ c.position.ensures.ran
+    (YieldsList-from_first (λ name. name.now) names_left {s = c.front_names.result} (front_names c.args.count c.args.file.now) c.front_names.ensures)
+    (λ x b q k. search rules) in
+    omega (arith, place_small _ _ r, front-count c.requires, c.ranges.count.fits)
 
 pub returns : goal.returns
-unfolding place_of
-returns c = let w = walk_ended _ c.loop-k.invariant c.loop-k-test.false in omega (arith, w.0, w.1)
+returns c =
+    sym c.in_ok-place.was
+    ∙ position_from_yields_List {s = c.front_names.result} (same_bytes c.args.name.now) c.position.new.self _ _ c.position.ensures.ran
+    (YieldsList-from_first (λ name. name.now) names_left {s = c.front_names.result} (front_names c.args.count c.args.file.now) c.front_names.ensures)
+    (λ x b q k. search rules)
+    ∙ sym (found_position _ _)

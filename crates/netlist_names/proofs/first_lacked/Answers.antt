@@ -1,41 +1,40 @@
-use Rattle.netlist_model.specs.Names.{first_lacked}
-use Rattle.netlist_names.proofs.Finding.{first_ended, here-name, here_record, lacked-here, lacked-there, walk_begins, walk_ended, walk_here, walk_next}
-use native.Mathlib.Omega.{arith}
+-- The first of the names that the others lack.
+use Rattle.netlist_model.proofs.FrontLaws.{front-count}
+use Rattle.netlist_model.specs.Names.{found}
+use Rattle.netlist_model.specs.code.Passing.{front_names}
+use Rattle.netlist_names.proofs.Finding.{lacked_found, place_small}
+use Rattle.netlist_names.specs.code.Left.{names_left}
+use Rattle.std.proofs.Common.{◌∙◌, ◌≡◌, ap, arith, inl, is_none, length, sym}
+use Rattle.std.proofs.lemmas.Grind.{common_steps}
+use Rattle.std.proofs.lemmas.Iterator.Consumers.{YieldsList-from_first}
+use Rattle.std.proofs.lemmas.Iterator.Search.{position_from_yields_List}
 use Rattle.netlist_names.proofs.first_lacked.Goals as goal
 
-pub line_end-at-requires : goal.line_end-at-requires
-line_end-at-requires c = first_ended c.requires.names_there_2
+pub position-requires-clause-fits : goal.position-requires-clause-fits
+position-requires-clause-fits c =
+    let e : length (names_left c.front_names.result) ≡ c.args.count = ap length c.front_names.ensures ∙ front-count c.requires.names_there_2 in
+    inl (omega (arith, e, c.ranges.count.fits))
 
-pub loop-k-init : goal.loop-k-init
-loop-k-init c = rw c.line_end-at.ensures (walk_begins _ c.requires.names_there_2 (omega arith))
+pub returns-in_err-place : goal.returns-in_err-place
+returns-in_err-place c =
+    c.from_residual.ensures ∙ sym c.in_err-place.was
+    ∙ position_from_yields_List {s = c.front_names.result} (λ x. is_none (found x (front_names c.args.count c.args.left.now))) c.position.new.self _ _ c.position.ensures.ran
+    (YieldsList-from_first (λ name. name.now) names_left {s = c.front_names.result} (front_names c.args.count c.args.right.now) c.front_names.ensures)
+    (λ x b q k. grind (arith, common_steps))
+    ∙ sym (lacked_found _ _)
 
-pub name_at-requires : goal.name_at-requires
-name_at-requires c = let n = walk_here _ c.loop-k.invariant c.loop-k-test.true in record {
-  at_in_bounds = omega (arith, n.ended);
-  file_value = here_record n;
-}
-
-pub find_name-requires : goal.find_name-requires
-find_name-requires c = c.requires.names_there
-
-pub returns-then-count-find_name : goal.returns-then-count-find_name
-returns-then-count-find_name c =
-    let n = walk_here _ c.loop-k.invariant c.loop-k-test.true in
-    let place = rw (here-name n c.name_at.ensures) at c.find_name.ensures in
-    let here = lacked-here _ c.requires.names_there n.name n.rest (rw place at c.if-count-find_name.true) in
-    omega (arith, here, n.holds)
-
-pub line_end-at-requires-in-loop-k : goal.line_end-at-requires-in-loop-k
-line_end-at-requires-in-loop-k c =
-    (walk_here _ c.loop-k.invariant c.loop-k-test.true).ended
-
-pub loop-k-preserved : goal.loop-k-preserved
-loop-k-preserved c =
-    let n = walk_here _ c.loop-k.invariant c.loop-k-test.true in
-    let place = rw (here-name n c.name_at.ensures) at c.find_name.ensures in
-    let there = lacked-there _ c.requires.names_there n.name n.rest (rw place at c.if-count-find_name.false) in
-    rw c.line_end-at-in-loop-k.ensures (walk_next n _ (omega (arith, there, n.holds)))
+pub overflow_cast-result : goal.overflow_cast-result
+overflow_cast-result c =
+    let r = sym c.in_ok-place.was
+    ∙ position_from_yields_List {s = c.front_names.result} (λ x. is_none (found x (front_names c.args.count c.args.left.now))) c.position.new.self _ _ c.position.ensures.ran
+    (YieldsList-from_first (λ name. name.now) names_left {s = c.front_names.result} (front_names c.args.count c.args.right.now) c.front_names.ensures)
+    (λ x b q k. grind (arith, common_steps)) in
+    omega (arith, place_small _ _ r, front-count c.requires.names_there_2, c.ranges.count.fits)
 
 pub returns : goal.returns
-unfolding first_lacked
-returns c = let w = walk_ended _ c.loop-k.invariant c.loop-k-test.false in omega (arith, w.0, w.1)
+returns c =
+    sym c.in_ok-place.was
+    ∙ position_from_yields_List {s = c.front_names.result} (λ x. is_none (found x (front_names c.args.count c.args.left.now))) c.position.new.self _ _ c.position.ensures.ran
+    (YieldsList-from_first (λ name. name.now) names_left {s = c.front_names.result} (front_names c.args.count c.args.right.now) c.front_names.ensures)
+    (λ x b q k. grind (arith, common_steps))
+    ∙ sym (lacked_found _ _)

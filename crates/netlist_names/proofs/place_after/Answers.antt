@@ -1,44 +1,26 @@
 use Prim.Native.Nat.{◌+◌}
 use Rattle.netlist_model.specs.code.Passing.{place_after}
 use Rattle.netlist_names.proofs.Finding.{place_inside, place-next}
-use borrow.Author.Rules.{rules}
 use lib.ListN.{length}
 use mathlib.Core.Path.{◌≡◌, refl}
 use native.Mathlib.Omega.{arith}
 use Rattle.netlist_names.proofs.place_after.Goals as goal
 
-pub loop-k-init : goal.loop-k-init
+pub loop-init : goal.loop-init
 unfolding place_after
-loop-k-init c = (search rules, refl)
+loop-init c = refl
 
 pub until-requires : goal.until-requires
 until-requires c =
-    let l = c.loop-k in
-    rw l.invariant.1 (place_inside c.args.file.now l.k c.args.count l.invariant.0 c.requires)
+    let l = c.loop in
+    rw l.invariant (place_inside c.args.file.now l.counter c.args.count (omega arith) c.requires)
 
-pub overflow_add-at : goal.overflow_add-at
-overflow_add-at c =
-    let l = c.loop-k in
+pub overflow_add-at-in-loop : goal.overflow_add-at-in-loop
+overflow_add-at-in-loop c =
+    let l = c.loop in
     let file = c.args.file.now in
-    let next : l.at + length c.until.result.now + 1 ≡ place_after file (l.k + 1) = rw c.until.ensures (place-next file l.k l.at l.invariant.1) in
-    omega (arith, next, place_inside file (l.k + 1) c.args.count (omega arith) c.requires)
+    let next : l.at + length c.until.result.now + 1 ≡ place_after file (l.counter + 1) = rw c.until.ensures (place-next file l.counter l.at l.invariant) in
+    omega (arith, next, place_inside file (l.counter + 1) c.args.count (omega arith) c.requires)
 
-pub overflow_add-at-in-loop-k : goal.overflow_add-at-in-loop-k
-overflow_add-at-in-loop-k c =
-    let l = c.loop-k in
-    let file = c.args.file.now in
-    let next : l.at + length c.until.result.now + 1 ≡ place_after file (l.k + 1) = rw c.until.ensures (place-next file l.k l.at l.invariant.1) in
-    omega (arith, next, place_inside file (l.k + 1) c.args.count (omega arith) c.requires)
-
-pub loop-k-preserved : goal.loop-k-preserved
-loop-k-preserved c =
-    let l = c.loop-k in
-    let file = c.args.file.now in
-    let next : l.at + length c.until.result.now + 1 ≡ place_after file (l.k + 1) = rw c.until.ensures (place-next file l.k l.at l.invariant.1) in
-    (search rules, next)
-
-pub returns : goal.returns
-returns c =
-    let l = c.loop-k in
-    let e : l.k ≡ c.args.count = omega arith in
-    rw e at l.invariant.1
+pub loop-preserved : goal.loop-preserved
+loop-preserved c = rw c.until.ensures (place-next c.args.file.now c.loop.counter c.loop.at c.loop.invariant)

@@ -1,6 +1,5 @@
 -- The word and the vertex of an Undecided, by its cause.
-use Rattle.report_format.specs.declared.Vertex.TheVariants.{At, None}
-use Rattle.report_format.specs.declared.Vertex.{Vertex}
+use Rattle.std.specs.Prelude.{ℕ, Option, Some, None}
 use Rattle.report_format.specs.declared.Word.TheVariants as word
 use Rattle.report_format.specs.declared.Word.{Word}
 use Rattle.sweep_model.specs.declared.Cause.TheVariants.{Rows, Size, Steps}
@@ -13,7 +12,7 @@ cause_word (Rows v) = word.Rows
 cause_word (Steps v) = word.Steps
 
 -- "vertex named by Rows or Steps" (RULES 11.4)
-abbrev pub cause_vertex : Cause → Vertex
+abbrev pub cause_vertex : Cause → Option ℕ
 cause_vertex Size = None
-cause_vertex (Rows v) = At v
-cause_vertex (Steps v) = At v
+cause_vertex (Rows v) = Some v
+cause_vertex (Steps v) = Some v

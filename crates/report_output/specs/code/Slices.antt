@@ -7,7 +7,6 @@ use Rattle.report_model.specs.Report.{after, comparisons, lines_of, next, progra
 use Rattle.table.specs.Accepted.{Accepted}
 use Rattle.table.specs.Limits.{max_inputs}
 use Rattle.table.specs.Table.{outputs_of}
-use denote.Triple.Both.{Both}
 
 -- A comparison with the program's limits, by the lists that its slices hold.
 abbrev pub asked : ℕ → Slices → Given
@@ -30,12 +29,12 @@ abbrev pub table_lines : ℕ → Slices → List ℕ
 table_lines edition s = head_line ++ first_lines edition (outputs_of s.table) s
 
 -- The slices are left as the comparisons of the first n outputs leave them.
-abbrev pub LeftAfter : ℕ → Both Slices Slices → Type 0
-LeftAfter n s = asked n s.exit ≡ after n (asked 0 s.entry)
+abbrev pub LeftAfter : ℕ → Slices → Slices → Type 0
+LeftAfter n old new = asked n new ≡ after n (asked 0 old)
 
 -- The slices are left as the comparison of an output leaves them for the next one.
-abbrev pub LeftToNext : ℕ → Both Slices Slices → Type 0
-LeftToNext output s = asked (output + 1) s.exit ≡ next (asked output s.entry)
+abbrev pub LeftToNext : ℕ → Slices → Slices → Type 0
+LeftToNext output old new = asked (output + 1) new ≡ next (asked output old)
 
 -- A table that comparisons are made of, and a setting slice that is long enough for it.
 pub record Ready (table : List ℕ) (setting : ℕ) : Type 0 where

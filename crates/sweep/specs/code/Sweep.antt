@@ -4,8 +4,10 @@ use Rattle.sweep_model.specs.Sweep.{Result, result_of, sweep}
 use Rattle.sweep_state.specs.code.Ending.{Closed, verdict_of}
 use Rattle.sweep_state.specs.code.Meet.{Workspace}
 use Rattle.sweep_state.specs.code.Settle.{state_on}
+use Rattle.sweep_state.specs.code.Sweep.{lent}
 use Rattle.sweep_state.specs.code.Words.{posed}
 use Rattle.sweep_state.specs.declared.end.Ended.{Ended}
+use Rattle.sweep_state.specs.declared.sweep.Sweep.{Sweep}
 use Rattle.sweep_state.specs.declared.task.Task.{Task}
 use Rattle.sweep_start.specs.code.Start.{HasFunctions}
 use Rattle.sweep_step.specs.code.Multiply.{Context}
@@ -22,9 +24,9 @@ pub record SweepAnswers (t : Task) (functions : List Truth) (a : Result) (b : Wo
   pub closed : Closed t functions b r
 
 -- From the first turn on.
-abbrev pub Rests : Task → ℕ → ℕ → Workspace → Workspace → Ended → Type 0
-Rests t used steps b after r =
-    (x : Context) → RestOn t x used steps b → SweepAnswers t x.functions (result_of (gone t x used steps b)) after r
+abbrev pub Rests : Sweep → Sweep → Ended → Type 0
+Rests s after r =
+    (x : Context) → RestOn s.task x s.used s.steps (lent s) → SweepAnswers s.task x.functions (result_of (gone s.task x s.used s.steps (lent s))) (lent after) r
 
 -- The whole.
 abbrev pub Sweeps : Task → Workspace → Workspace → Ended → Type 0

@@ -1,7 +1,18 @@
 -- Stages as words.
 use Rattle.std.specs.Prelude.{◌*◌, suc, zero, ℕ, set, List, [], ◌∷◌}
 use Rattle.aig.specs.Lookup.{first_word}
+use Rattle.sweep_graph.specs.declared.stage.Stage.TheVariants as code
+use Rattle.sweep_graph.specs.declared.stage.Stage as declared
 use Rattle.sweep_model.specs.State.{Stage, again, bare, dropped, gone, opened, waiting}
+
+-- The model's stage of one of the code.
+abbrev pub staged : declared.Stage → Stage
+staged code.Bare = bare
+staged code.Waiting = waiting
+staged code.Opened = opened
+staged code.Again = again
+staged code.Dropped = dropped
+staged code.Gone = gone
 
 -- The word of a stage.
 abbrev pub stage_word : Stage → ℕ
@@ -20,6 +31,10 @@ word_stage (suc (suc zero)) = opened
 word_stage (suc (suc (suc zero))) = again
 word_stage (suc (suc (suc (suc zero)))) = dropped
 word_stage (suc (suc (suc (suc (suc w))))) = gone
+
+-- The stage of a vertex, by its first word.
+abbrev pub stage_in : List ℕ → ℕ → Stage
+stage_in words v = word_stage (first_word words v)
 
 -- The words with the stage of vertex v set: the first of its two.
 abbrev pub with_stage : List ℕ → ℕ → ℕ → List ℕ

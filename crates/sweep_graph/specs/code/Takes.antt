@@ -9,8 +9,6 @@ use Rattle.bdd.specs.code.Rows.{RADIX}
 use Rattle.sweep_graph.specs.code.Stages.{stage_word, with_stage, word_stage}
 use Rattle.sweep_model.specs.Normalise.{merged?, wake}
 use Rattle.sweep_model.specs.State.{gone, gone?, has?}
-use Rattle.std.specs.Borrow.{MutBor}
-use denote.Triple.Both.{Both}
 
 -- What handing over changes: the words of stages and of diagrams, and the rows of diagrams, which name their owners.
 pub record Held : Type 0 where
@@ -20,18 +18,6 @@ pub record Held : Type 0 where
 
 abbrev pub held : List ℕ → List ℕ → List ℕ → Held
 held stages diagrams rows = record { stages = stages; diagrams = diagrams; rows = rows }
-
--- A lent slice, at entry and at exit.
-abbrev pub Slice : Type 0
-Slice = Both (MutBor (List ℕ)) (MutBor (List ℕ))
-
--- What three lent slices hold, at entry and at exit.
-abbrev pub helds : Slice → Slice → Slice → Both Held Held
-helds stages diagrams rows =
-    record {
-      entry = held stages.entry.now diagrams.entry.now rows.entry.now;
-      exit = held stages.exit.now diagrams.exit.now rows.exit.now;
-    }
 
 -- Whether a vertex has a diagram.
 abbrev pub has_word : List ℕ → ℕ → Bool

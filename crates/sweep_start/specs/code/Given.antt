@@ -1,5 +1,5 @@
 -- All inputs given their rows, as the model gives them.
-use Rattle.std.specs.Prelude.{◌-◌, ℕ, List, ◌≡◌}
+use Rattle.std.specs.Prelude.{◌-◌, ℕ, Err, List, Ok, Result, ◌≡◌}
 use Rattle.sweep_model.specs.State.{State}
 use Rattle.sweep_model.specs.code.Steady.{Giving}
 use Rattle.sweep_model.specs.Sweep.{Progress, give_inputs, on}
@@ -11,8 +11,6 @@ use Rattle.sweep_state.specs.code.Arrays.{Arrays}
 use Rattle.sweep_state.specs.code.Words.{Words, posed, state_of, words}
 use Rattle.sweep_state.specs.declared.end.End.TheVariants.{Undecided}
 use Rattle.sweep_state.specs.declared.task.Task.{Task}
-use Rattle.sweep_start.specs.declared.inputs.Inputs.TheVariants.{All, Short}
-use Rattle.sweep_start.specs.declared.inputs.Inputs.{Inputs}
 use Rattle.truth.specs.Truth.{Truth}
 
 -- What stays while the inputs are given their rows: the vertices' functions, the entry rows, the pairs and the steps.
@@ -51,6 +49,6 @@ pub record AllGiven (t : Task) (x : InputContext) (a : Arrays) (used : ℕ) (b :
 abbrev pub ShortAt : Task → InputContext → Arrays → ℕ → Arrays → ℕ → ℕ → Type 0
 ShortAt t x a used b v more = Ends t x.functions (giving_from t x a used 1) (workspace x.pairs b) (ended_with (Undecided (Rows v)) more x.steps 0)
 
-abbrev pub GivesRows : Task → Arrays → ℕ → Arrays → Inputs → Type 0
-GivesRows t a used b (All more) = (x : InputContext) → GivenTo t x a used 1 → AllGiven t x a used b more
-GivesRows t a used b (Short v more) = (x : InputContext) → GivenTo t x a used 1 → ShortAt t x a used b v more
+abbrev pub GivesRows : Task → Arrays → ℕ → Arrays → ℕ → Result (Unit {0}) ℕ → Type 0
+GivesRows t a used b more (Ok _) = (x : InputContext) → GivenTo t x a used 1 → AllGiven t x a used b more
+GivesRows t a used b more (Err v) = (x : InputContext) → GivenTo t x a used 1 → ShortAt t x a used b v more

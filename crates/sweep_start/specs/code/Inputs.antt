@@ -1,12 +1,10 @@
 -- An input's row, by words.
-use Rattle.std.specs.Prelude.{◌*◌, ◌+◌, ◌-◌, ◌<◌, ◌≤◌, ℕ, length, set, List, ◌≡◌}
+use Rattle.std.specs.Prelude.{◌*◌, ◌+◌, ◌-◌, ◌<◌, ◌≤◌, ℕ, Err, length, set, List, Ok, Result, ◌≡◌}
 use Rattle.bdd.specs.code.Rows.{MARK, RADIX}
 use Rattle.bdd.specs.code.Store.{Store}
 use Rattle.bdd_unique.specs.code.Unique.{MadeAt, MadeFull}
 use Rattle.sweep_state.specs.code.Arrays.{Arrays, arrays, drawn_at, on_rows}
 use Rattle.sweep_state.specs.declared.task.Task.{Task}
-use Rattle.sweep_start.specs.declared.inputs.Given.TheVariants.{Full, Row}
-use Rattle.sweep_start.specs.declared.inputs.Given.{Given}
 
 -- What giving vertex v its row needs.
 pub record RowAsked (t : Task) (v used : ℕ) (a : Arrays) : Type 0 where
@@ -37,6 +35,6 @@ pub record RowLacked (t : Task) (v used : ℕ) (a b : Arrays) : Type 0 where
   pub marked : b ≡ arrays a.diagrams a.stages a.rows (set a.marks v 3)
 
 -- The row of input v was given, or none was left.
-abbrev pub Gives : Task → ℕ → ℕ → Arrays → Arrays → Given → Type 0
-Gives t v used a b (Row more) = RowGiven t v used a b more
-Gives t v used a b Full = RowLacked t v used a b
+abbrev pub Gives : Task → ℕ → ℕ → Arrays → Arrays → ℕ → Result (Unit {0}) ℕ → Type 0
+Gives t v used a b more (Ok _) = RowGiven t v used a b more
+Gives t v used a b more (Err w) = RowLacked t v used a b × (more ≡ used) × (w ≡ v)

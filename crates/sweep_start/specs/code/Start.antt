@@ -1,5 +1,5 @@
 -- The start of a sweep, as in the model.
-use Rattle.std.specs.Prelude.{◌*◌, ◌-◌, ◌<◌, ◌^◌, ◌≤◌, ℕ, length, List, ◌≡◌}
+use Rattle.std.specs.Prelude.{◌*◌, ◌-◌, ◌<◌, ◌^◌, ◌≤◌, ℕ, Err, length, List, Ok, Result, ◌≡◌}
 use Rattle.bdd.specs.code.Rows.{LIMIT, MARK, RADIX}
 use Rattle.sweep_model.specs.Fit.{Fit}
 use Rattle.sweep_model.specs.Normalise.{normalise}
@@ -10,10 +10,9 @@ use Rattle.sweep_state.specs.code.Meet.{Workspace}
 use Rattle.sweep_state.specs.code.Represents.{Represents}
 use Rattle.sweep_state.specs.code.Settle.{on_workspace, state_on}
 use Rattle.sweep_state.specs.code.Words.{posed}
+use Rattle.sweep_state.specs.declared.end.Ended.{Ended}
 use Rattle.sweep_state.specs.declared.task.Task.{Task}
 use Rattle.sweep_turn.specs.code.Turn.{RestOn, first_context}
-use Rattle.sweep_turn.specs.declared.visit.Going.TheVariants.{Ended, On}
-use Rattle.sweep_turn.specs.declared.visit.Going.{Going}
 use Rattle.truth.specs.Truth.{Truth}
 
 -- The vertices have these functions, and the pairs are the rows of a graph with them.
@@ -65,15 +64,16 @@ pub record GoneOn (t : Task) (functions : List Truth) (entry : List ℕ) (o : Pr
   pub reached : o ≡ on (state_on t after used steps)
   pub rests : RestOn t (first_context t functions entry after used steps) used steps after
 
-abbrev pub GivesInputs : Task → Workspace → Workspace → Going → Type 0
-GivesInputs t b after (On used steps) =
+abbrev pub GivesInputs : Task → Workspace → Workspace → ℕ → ℕ → Result (Unit {0}) Ended → Type 0
+GivesInputs t b after used steps (Ok _) =
     (functions : List Truth) (entry : List ℕ) → Prepared t functions entry b → GoneOn t functions entry (inputs_given t functions b) after used steps
-GivesInputs t b after (Ended r) =
+GivesInputs t b after used steps (Err r) =
     (functions : List Truth) (entry : List ℕ) → Prepared t functions entry b → Ends t functions (inputs_given t functions b) after r
 
 -- Steps 1, 2, 3 and 5. (RULES 6.1, 6.2, 6.3, 6.5)
-abbrev pub Starts : Task → Workspace → Workspace → Going → Type 0
-Starts t b after (On used steps) =
+abbrev pub Starts : Task → Workspace → Workspace → ℕ → ℕ → Result (Unit {0}) Ended → Type 0
+Starts t b after used steps (Ok _) =
     (functions : List Truth) → HasFunctions t functions b.pairs
     → GoneOn t functions b.pairs (start (posed t functions) b.pairs) after used steps
-Starts t b after (Ended r) = (functions : List Truth) → HasFunctions t functions b.pairs → Ends t functions (start (posed t functions) b.pairs) after r
+Starts t b after used steps (Err r) =
+    (functions : List Truth) → HasFunctions t functions b.pairs → Ends t functions (start (posed t functions) b.pairs) after r

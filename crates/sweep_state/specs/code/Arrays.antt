@@ -3,8 +3,6 @@ use Rattle.std.specs.Prelude.{◌/◌, ℕ, set, List}
 use Rattle.aig.specs.Lookup.{with_row}
 use Rattle.bdd.specs.code.Owners.{with_owner}
 use Rattle.sweep_graph.specs.code.Stages.{with_stage}
-use Rattle.sweep_graph.specs.code.Takes.{Slice}
-use denote.Triple.Both.{Both}
 
 -- The words of diagrams, stages and rows and the bytes of marks.
 pub record Arrays : Type 0 where
@@ -15,14 +13,6 @@ pub record Arrays : Type 0 where
 
 abbrev pub arrays : List ℕ → List ℕ → List ℕ → List ℕ → Arrays
 arrays diagrams stages rows marks = record { diagrams = diagrams; stages = stages; rows = rows; marks = marks }
-
--- The arrays of four lent slices, at entry and at exit.
-abbrev pub arrays_of : Slice → Slice → Slice → Slice → Both Arrays Arrays
-arrays_of diagrams stages rows marks =
-    record {
-      entry = arrays diagrams.entry.now stages.entry.now rows.entry.now marks.entry.now;
-      exit = arrays diagrams.exit.now stages.exit.now rows.exit.now marks.exit.now;
-    }
 
 -- Vertex v has the diagram of a reference, owns its row, waits, and is marked 1.
 abbrev pub drawn_at : ℕ → ℕ → ℕ → Arrays → Arrays

@@ -1,21 +1,19 @@
 -- A product within the size limit, by words.
+use Rattle.std.specs.Prelude.{None, Option, Some}
 use Rattle.std.specs.Prelude.{◌*◌, ◌-◌, ◌/◌, ◌<◌, ◌≤◌, max, min, ℕ, eqb, length, Bool, cond, not, List, ◌≢◌, ◌≡◌}
 use Rattle.aig.specs.Literal.{literal_of}
 use Rattle.aig.specs.Lookup.{first_word}
 use Rattle.bdd.specs.code.Rows.{owner_at}
 use Rattle.sweep_graph.specs.code.Graph.{Graph}
-use Rattle.sweep_graph.specs.code.Takes.{Held, Slice, TakesRoom, held, takes_words}
+use Rattle.sweep_graph.specs.code.Takes.{Held, TakesRoom, held, takes_words}
 use Rattle.sweep_model.specs.Normalise.{merged_into, normalise_from}
-use Rattle.sweep_state.specs.code.Arrays.{Arrays, arrays, arrays_of, drawn_at}
+use Rattle.sweep_state.specs.code.Arrays.{Arrays, arrays, drawn_at}
 use Rattle.sweep_state.specs.declared.task.Task.{Task}
-use Rattle.sweep_state.specs.declared.twin.Twin.TheVariants.{At, None}
-use Rattle.sweep_state.specs.declared.twin.Twin.{Twin}
-use denote.Triple.Both.{Both}
 
 -- "If its function or the inverse belongs to a vertex with a diagram": the owner of the row; the constant's row is not stored. (RULES 6.4)
-unfoldable pub twin_at : List ℕ → ℕ → Twin
+unfoldable pub twin_at : List ℕ → ℕ → Option ℕ
 twin_at rows reference =
-    cond (eqb (reference / 2) 0) (At 0) (cond (eqb (owner_at rows (reference / 2)) 0) None (At (owner_at rows (reference / 2))))
+    cond (eqb (reference / 2) 0) (Some 0) (cond (eqb (owner_at rows (reference / 2)) 0) None (Some (owner_at rows (reference / 2))))
 
 -- Whether the diagrams of two vertices, on one row, are inverse.
 unfoldable pub inverse? : List ℕ → ℕ → ℕ → Bool
@@ -51,14 +49,6 @@ pub record Workspace : Type 0 where
 abbrev pub workspace : List ℕ → Arrays → Workspace
 workspace pairs a = record { pairs = pairs; arrays = a }
 
--- The workspace of five lent slices, at entry and at exit.
-abbrev pub workspaces : Slice → Slice → Slice → Slice → Slice → Both Workspace Workspace
-workspaces pairs diagrams stages rows marks =
-    record {
-      entry = workspace pairs.entry.now (arrays_of diagrams stages rows marks).entry;
-      exit = workspace pairs.exit.now (arrays_of diagrams stages rows marks).exit;
-    }
-
 -- The arrays as handing over sees them, and with what it left.
 abbrev pub held_of : Arrays → Held
 held_of a = held a.stages a.diagrams a.rows
@@ -73,9 +63,9 @@ merged_workspace t v w b =
     workspace pairs (with_held (handed_in t pairs (held_of b.arrays)) b.arrays)
 
 -- Vertex v gets its diagram, and merges with its twin.
-unfoldable pub met_with : Task → ℕ → Workspace → Twin → Workspace
+unfoldable pub met_with : Task → ℕ → Workspace → Option ℕ → Workspace
 met_with t v b None = b
-met_with t v b (At w) = merged_workspace t v w b
+met_with t v b (Some w) = merged_workspace t v w b
 
 abbrev pub met_workspace : Task → ℕ → ℕ → ℕ → Workspace → Workspace
 met_workspace t v reference size b =
@@ -90,4 +80,4 @@ pub record MeetAsked (t : Task) (v reference size : ℕ) (look : List ℕ) (b : 
   pub row_within : reference / 2 * 4 ≤ length b.arrays.rows
   pub made : t.first ≤ v
   pub within : v < t.count
-  pub twin : (w : ℕ) → twin_at b.arrays.rows reference ≡ At w → (w < t.count) × (w ≢ v)
+  pub twin : (w : ℕ) → twin_at b.arrays.rows reference ≡ Some w → (w < t.count) × (w ≢ v)

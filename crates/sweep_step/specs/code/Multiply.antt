@@ -1,19 +1,22 @@
 -- A vertex has its product taken, as in the model.
-use Rattle.std.specs.Prelude.{ℕ, List, ◌≡◌}
+use Rattle.std.specs.Prelude.{ℕ, Err, List, Ok, Option, Result, ◌≡◌}
+use Rattle.product.specs.declared.steps.Short.TheVariants as short
+use Rattle.product.specs.declared.steps.Short.{Short}
 use Rattle.sweep_model.specs.code.Steady.{Due}
 use Rattle.sweep_model.specs.Sweep.{Progress, multiply}
 use Rattle.sweep_model.specs.declared.Cause.TheVariants.{Rows, Steps}
-use Rattle.sweep_state.specs.code.Ending.{Ends, ended_with}
+use Rattle.sweep_state.specs.code.Ending.{Ends}
 use Rattle.sweep_state.specs.code.Look.{SeenRefers, progress_of}
 use Rattle.sweep_state.specs.code.Meet.{Workspace}
 use Rattle.sweep_state.specs.code.Represents.{Represents}
 use Rattle.sweep_state.specs.code.Settle.{BeforeProduct, Ended, on_workspace, state_on, workspace_before}
+use Rattle.sweep_state.specs.code.Sweep.{lent}
 use Rattle.sweep_state.specs.code.Words.{posed}
 use Rattle.sweep_state.specs.declared.end.End.TheVariants.{Undecided}
-use Rattle.sweep_state.specs.declared.end.Seen.{Seen}
+use Rattle.sweep_state.specs.declared.end.End.{End}
+use Rattle.sweep_state.specs.declared.end.Ended as result
+use Rattle.sweep_state.specs.declared.sweep.Sweep.{Sweep}
 use Rattle.sweep_state.specs.declared.task.Task.{Task}
-use Rattle.sweep_step.specs.declared.multiply.Step.TheVariants as step
-use Rattle.sweep_step.specs.declared.multiply.Step.{Step}
 use Rattle.truth.specs.Truth.{Truth}
 
 -- What stays while a scan goes on: the vertices' functions, the entry rows, the turns left.
@@ -28,15 +31,15 @@ pub record DueOn (t : Task) (x : Context) (v used steps : ℕ) (b : Workspace) :
   pub due : Due (posed t x.functions) x.entry x.turns v (state_on t b used steps)
 
 -- Such a context is there.
-pub record DueIn (t : Task) (v used steps : ℕ) (b : Workspace) : Type 0 where
+pub record DueIn (v : ℕ) (s : Sweep) : Type 0 where
   pub context : Context
-  pub on : DueOn t context v used steps b
+  pub on : DueOn s.task context v s.used s.steps (lent s)
 
 abbrev pub multiplied : Task → Context → ℕ → ℕ → ℕ → Workspace → Progress
 multiplied t x v used steps b = multiply (posed t x.functions) v (state_on t b used steps)
 
 -- The product is done, and the two literals are looked at.
-pub record Looked (t : Task) (x : Context) (v used steps : ℕ) (b after : Workspace) (seen : Seen) (more taken : ℕ) : Type 0 where
+pub record Looked (t : Task) (x : Context) (v used steps : ℕ) (b after : Workspace) (seen : Option End) (more taken : ℕ) : Type 0 where
   pub reached : multiplied t x v used steps b ≡ progress_of after.arrays.rows t.inputs (state_on t after more taken) seen
   pub represents : Represents t x.functions x.entry (on_workspace after more taken)
   pub refers : SeenRefers after.arrays.rows more t.inputs seen
@@ -45,16 +48,23 @@ pub record Looked (t : Task) (x : Context) (v used steps : ℕ) (b after : Works
 abbrev pub scene_of : BeforeProduct → Context
 scene_of x = record { functions = x.functions; entry = x.entry; turns = x.turns }
 
--- A product that is done after so many steps: the two literals are looked at, in each setting in which it ended so.
-abbrev pub Concludes : Task → ℕ → ℕ → ℕ → ℕ → ℕ → Workspace → Workspace → Step → Type 0
-Concludes t v reference used kept steps b after (step.Looked seen more taken) =
-    (x : BeforeProduct) → Ended t x v reference used kept b → x.taken ≡ steps → Looked t (scene_of x) v kept x.steps (workspace_before x b) after seen more taken
-Concludes t v reference used kept steps b after (step.Rows more taken added) = ⊥
-Concludes t v reference used kept steps b after (step.Steps more taken added) = ⊥
+-- A product that is done: the two literals are looked at, in each setting in which it ended so.
+abbrev pub Concludes : ℕ → ℕ → ℕ → Sweep → Sweep → Option End → Type 0
+Concludes v reference kept s after seen =
+    (x : BeforeProduct) → Ended s.task x v reference s.used kept (lent s) → x.taken ≡ s.steps
+    → Looked s.task (scene_of x) v kept x.steps (workspace_before x (lent s)) (lent after) seen after.used after.steps
 
-abbrev pub Takes : Task → ℕ → ℕ → ℕ → Workspace → Workspace → Step → Type 0
-Takes t v used steps b after (step.Looked seen more taken) = (x : Context) → DueOn t x v used steps b → Looked t x v used steps b after seen more taken
-Takes t v used steps b after (step.Rows more taken added) =
-    (x : Context) → DueOn t x v used steps b → Ends t x.functions (multiplied t x v used steps b) after (ended_with (Undecided (Rows v)) more taken added)
-Takes t v used steps b after (step.Steps more taken added) =
-    (x : Context) → DueOn t x v used steps b → Ends t x.functions (multiplied t x v used steps b) after (ended_with (Undecided (Steps v)) more taken added)
+-- "Rows or Steps with the vertex at which the limit was passed" (RULES 7.3)
+abbrev pub end_by : ℕ → Short → End
+end_by v short.Rows = Undecided (Rows v)
+end_by v short.Steps = Undecided (Steps v)
+
+-- The end names the vertex at which a limit was passed. (RULES 7.3)
+pub record PassedAt (v : ℕ) (e : End) : Type 0 where
+  pub short : Short
+  pub ends : e ≡ end_by v short
+
+-- It is done and looked at, or a limit was passed.
+abbrev pub Takes : ℕ → Sweep → Sweep → Result (Option End) result.Ended → Type 0
+Takes v s after (Ok seen) = (x : Context) → DueOn s.task x v s.used s.steps (lent s) → Looked s.task x v s.used s.steps (lent s) (lent after) seen after.used after.steps
+Takes v s after (Err r) = (x : Context) → DueOn s.task x v s.used s.steps (lent s) → Ends s.task x.functions (multiplied s.task x v s.used s.steps (lent s)) (lent after) r

@@ -1,15 +1,16 @@
 -- A scan, as in the model.
-use Rattle.std.specs.Prelude.{◌-◌, ℕ, ◌≡◌}
+use Rattle.std.specs.Prelude.{◌-◌, ℕ, Err, Ok, Result, ◌≡◌}
 use Rattle.sweep_model.specs.Sweep.{Progress, on, scan_from}
 use Rattle.sweep_state.specs.code.Ending.{Ends}
 use Rattle.sweep_state.specs.code.Meet.{Workspace}
 use Rattle.sweep_state.specs.code.Settle.{state_on}
 use Rattle.sweep_state.specs.code.Words.{posed}
+use Rattle.sweep_state.specs.code.Sweep.{lent}
+use Rattle.sweep_state.specs.declared.end.Ended.{Ended}
+use Rattle.sweep_state.specs.declared.sweep.Sweep.{Sweep}
 use Rattle.sweep_state.specs.declared.task.Task.{Task}
 use Rattle.sweep_step.specs.code.Multiply.{Context}
 use Rattle.sweep_turn.specs.code.Visit.{ScanOn}
-use Rattle.sweep_turn.specs.declared.visit.Going.TheVariants.{Ended, On}
-use Rattle.sweep_turn.specs.declared.visit.Going.{Going}
 
 -- The model's progress from vertex v on.
 abbrev pub scanned_from : Task → Context → ℕ → ℕ → ℕ → Workspace → Progress
@@ -20,7 +21,8 @@ pub record ScannedAll (t : Task) (x : Context) (from used steps : ℕ) (b after 
   pub reached : scanned_from t x from used steps b ≡ on (state_on t after more taken)
   pub here : ScanOn t x t.count more taken after
 
-abbrev pub Scans : Task → ℕ → ℕ → ℕ → Workspace → Workspace → Going → Type 0
-Scans t from used steps b after (On more taken) = (x : Context) → ScanOn t x from used steps b → ScannedAll t x from used steps b after more taken
-Scans t from used steps b after (Ended r) =
-    (x : Context) → ScanOn t x from used steps b → Ends t x.functions (scanned_from t x from used steps b) after r
+abbrev pub Scans : ℕ → Sweep → Sweep → Result (Unit {0}) Ended → Type 0
+Scans from s after (Ok _) =
+    (x : Context) → ScanOn s.task x from s.used s.steps (lent s) → ScannedAll s.task x from s.used s.steps (lent s) (lent after) after.used after.steps
+Scans from s after (Err r) =
+    (x : Context) → ScanOn s.task x from s.used s.steps (lent s) → Ends s.task x.functions (scanned_from s.task x from s.used s.steps (lent s)) (lent after) r

@@ -1,26 +1,22 @@
 -- The scan's visit of a vertex, as in the model.
-use Rattle.std.specs.Prelude.{◌*◌, ◌+◌, ◌<◌, suc, ℕ, leb, length, Bool, ◌&&◌, List, ◌≡◌}
+use Rattle.std.specs.Prelude.{◌*◌, ◌+◌, ◌<◌, suc, ℕ, leb, length, Bool, ◌&&◌, Err, List, None, Ok, Option, Result, Some, ◌≡◌}
 use Rattle.aig.specs.Literal.{vertex_of}
 use Rattle.aig.specs.Lookup.{first_word, second_word}
 use Rattle.sweep_graph.specs.code.Stages.{word_stage}
 use Rattle.sweep_model.specs.State.{bare?, open?}
 use Rattle.sweep_model.specs.code.Steady.{Scanning}
 use Rattle.sweep_model.specs.Sweep.{Progress, on, visit}
-use Rattle.sweep_model.specs.declared.Cause.TheVariants.{Rows, Steps}
 use Rattle.sweep_state.specs.code.Ending.{Ends, ended_with}
 use Rattle.sweep_state.specs.code.Meet.{Workspace}
 use Rattle.sweep_state.specs.code.Represents.{Represents}
 use Rattle.sweep_state.specs.code.Settle.{on_workspace, state_on}
 use Rattle.sweep_state.specs.code.Words.{posed}
-use Rattle.sweep_state.specs.declared.end.End.TheVariants.{Undecided}
-use Rattle.sweep_state.specs.declared.end.Seen.TheVariants.{Decided, Nothing}
-use Rattle.sweep_state.specs.declared.end.Seen.{Seen}
+use Rattle.sweep_state.specs.code.Sweep.{lent}
+use Rattle.sweep_state.specs.declared.end.End.{End}
+use Rattle.sweep_state.specs.declared.end.Ended.{Ended}
+use Rattle.sweep_state.specs.declared.sweep.Sweep.{Sweep}
 use Rattle.sweep_state.specs.declared.task.Task.{Task}
 use Rattle.sweep_step.specs.code.Multiply.{Context}
-use Rattle.sweep_step.specs.declared.multiply.Step.TheVariants as step
-use Rattle.sweep_step.specs.declared.multiply.Step.{Step}
-use Rattle.sweep_turn.specs.declared.visit.Going.TheVariants.{Ended, On}
-use Rattle.sweep_turn.specs.declared.visit.Going.{Going}
 
 abbrev pub open_word : List ℕ → ℕ → Bool
 open_word stages v = open? (word_stage (first_word stages v))
@@ -37,15 +33,10 @@ pub record ReadyAsked (v : ℕ) (pairs stages : List ℕ) : Type 0 where
   pub first-stage : 2 * vertex_of (first_word pairs v) < length stages
   pub second-stage : 2 * vertex_of (second_word pairs v) < length stages
 
--- How the sweep goes on after what was seen, and after the product of vertex v.
-abbrev pub going_by : Seen → ℕ → ℕ → Going
-going_by (Decided e) u k = Ended (ended_with e u k 0)
-going_by Nothing u k = On u k
-
-abbrev pub going_of : ℕ → Step → Going
-going_of v (step.Looked seen u k) = going_by seen u k
-going_of v (step.Rows u k n) = Ended (ended_with (Undecided (Rows v)) u k n)
-going_of v (step.Steps u k n) = Ended (ended_with (Undecided (Steps v)) u k n)
+-- How the sweep goes on after what was seen.
+abbrev pub going_by : Option End → ℕ → ℕ → Result (Unit {0}) Ended
+going_by (Some e) u k = Err (ended_with e u k 0)
+going_by None u k = Ok tt
 
 -- The scan has come to vertex v.
 pub record ScanOn (t : Task) (x : Context) (v used steps : ℕ) (b : Workspace) : Type 0 where
@@ -53,9 +44,9 @@ pub record ScanOn (t : Task) (x : Context) (v used steps : ℕ) (b : Workspace) 
   pub scanning : Scanning (posed t x.functions) x.turns v (state_on t b used steps)
 
 -- Such a context is there.
-pub record ScanIn (t : Task) (v used steps : ℕ) (b : Workspace) : Type 0 where
+pub record ScanIn (v : ℕ) (s : Sweep) : Type 0 where
   pub context : Context
-  pub here : ScanOn t context v used steps b
+  pub here : ScanOn s.task context v s.used s.steps (lent s)
 
 abbrev pub visited : Task → Context → ℕ → ℕ → ℕ → Workspace → Progress
 visited t x v used steps b = visit (posed t x.functions) v (state_on t b used steps)
@@ -65,6 +56,6 @@ pub record WentOn (t : Task) (x : Context) (v used steps : ℕ) (b after : Works
   pub reached : visited t x v used steps b ≡ on (state_on t after more taken)
   pub here : ScanOn t x (suc v) more taken after
 
-abbrev pub Visits : Task → ℕ → ℕ → ℕ → Workspace → Workspace → Going → Type 0
-Visits t v used steps b after (On more taken) = (x : Context) → ScanOn t x v used steps b → WentOn t x v used steps b after more taken
-Visits t v used steps b after (Ended r) = (x : Context) → ScanOn t x v used steps b → Ends t x.functions (visited t x v used steps b) after r
+abbrev pub Visits : ℕ → Sweep → Sweep → Result (Unit {0}) Ended → Type 0
+Visits v s after (Ok _) = (x : Context) → ScanOn s.task x v s.used s.steps (lent s) → WentOn s.task x v s.used s.steps (lent s) (lent after) after.used after.steps
+Visits v s after (Err r) = (x : Context) → ScanOn s.task x v s.used s.steps (lent s) → Ends s.task x.functions (visited s.task x v s.used s.steps (lent s)) (lent after) r

@@ -1,24 +1,18 @@
-use Rattle.table_refusal.proofs.TestLaws.{all-below_step}
+-- The library's test of all items is the definition's.
+use Rattle.std.proofs.Common.{◌≡◌, ℕ, ltb, List, [], ◌∷◌, refl, ◌∙◌, rules, tests}
+use Rattle.std.specs.List.{list_all}
+use Rattle.std.proofs.lemmas.Iterator.{YieldsList-from_slice}
+use Rattle.std.proofs.lemmas.Iterator.Search.{all_from_yields_List}
 use Rattle.table.specs.Table.{all_below?}
-use borrow.Author.Rules.{rules}
-use borrow.Author.Tests.{le-ltb, lt-ltb}
-use lib.ListN.{drop_of_length-le}
-use mathlib.Core.Path.{refl}
 use Rattle.table_refusal.proofs.all_below.Goals as goal
 
-pub loop-i-init : goal.loop-i-init
-loop-i-init c = (search rules, refl)
-
-pub returns-then-bound-words : goal.returns-then-bound-words
-returns-then-bound-words c =
-    rw (c.loop-i.invariant.1, all-below_step _ _ _ c.loop-i-test.true, le-ltb _ _ c.if-bound-words.true) refl
-
-pub loop-i-preserved : goal.loop-i-preserved
-loop-i-preserved c = (
-  search rules,
-  rw (c.loop-i.invariant.1, all-below_step _ _ _ c.loop-i-test.true, lt-ltb _ _ c.if-bound-words.false) refl,
-)
+all-below : (n : ℕ) (ws : List ℕ) → list_all (λ w. ltb w n) ws ≡ all_below? n ws
+unfolding all_below?
+all-below n [] = refl
+all-below n (w ∷ ws) = rw (all-below n ws) refl
 
 pub returns : goal.returns
-unfolding all_below?
-returns c = rw (c.loop-i.invariant.1, drop_of_length-le _ c.loop-i-test.false) refl
+returns c =
+    let n = c.args.bound in
+    let ws = c.args.words.now in
+    all_from_yields_List (λ w. ltb w n) _ _ c.all.result c.all.ensures.ran (YieldsList-from_slice ws cc) (λ x b q k. search (rules, tests)) ∙ all-below n ws

@@ -1,30 +1,26 @@
-use Prim.Native.Nat.{◌-◌}
+use Rattle.std.proofs.Common.{◌≡◌, ◌-◌, refl, rules, arith}
 use Rattle.table_refusal.proofs.TestLaws.{downward_step}
-use Rattle.table.specs.Table.{downward?, pairs}
-use borrow.Author.Rules.{rules}
-use mathlib.Core.Path.{◌≡◌, refl}
-use native.Mathlib.Nat.{sub-zero}
-use native.Mathlib.Omega.{arith}
+use Rattle.table.specs.Table.{downward?, made_of, pairs, rows_of}
 use Rattle.table_refusal.proofs.is_downward.Goals as goal
 
 pub loop-i-init : goal.loop-i-init
-loop-i-init c = (search rules, search rules, simp sub-zero)
+unfolding rows_of
+loop-i-init c = search rules
 
 pub returns-then-not-row_below : goal.returns-then-not-row_below
 returns-then-not-row_below c =
-    let row = c.row_below in
-    rw (c.loop-i.invariant.2, downward_step _ 3 _ _ _ c.loop-i-test.true, ← row.ensures, c.if-not-row_below.true) refl
+    let lt = rw c.made-i-end.ensures at c.loop-i-test.true in
+    let e = rw (c.row.ensures.first, c.row.ensures.second, c.inputs-first.ensures) at c.if-not-row_below.ensures in
+    rw (c.loop-i.invariant, downward_step _ 3 _ _ _ lt, ← e) refl
 
 pub loop-i-preserved : goal.loop-i-preserved
 loop-i-preserved c =
-    let row = c.row_below in (
-      search rules,
-      search rules,
-      rw (c.loop-i.invariant.2, downward_step _ 3 _ _ _ c.loop-i-test.true, ← row.ensures, c.if-not-row_below.false) refl,
-    )
+    let lt = rw c.made-i-end.ensures at c.loop-i-test.true in
+    let e = rw (c.row.ensures.first, c.row.ensures.second, c.inputs-first.ensures) at c.if-not-row_below.ensures in
+    rw (c.loop-i.invariant, downward_step _ 3 _ _ _ lt, ← e) refl
 
 pub returns : goal.returns
 unfolding downward? pairs
 returns c =
-    let none : c.args.made - c.loop-i.i ≡ 0 = omega arith in
-    rw (c.loop-i.invariant.2, none) refl
+    let none : made_of c.args.table.now.words.now - c.loop-i.i ≡ 0 = omega (arith, c.made-i-end.ensures, c.loop-i-test.false) in
+    rw (c.loop-i.invariant, none) refl

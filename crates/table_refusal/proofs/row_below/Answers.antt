@@ -1,12 +1,11 @@
--- The second literal is tested where the first is below the bound; no loop.
+use Rattle.std.proofs.Common.{rules, tests}
 use Rattle.table.specs.Table.{row_below?}
-use borrow.Author.Tests.{le-ltb, lt-ltb}
 use Rattle.table_refusal.proofs.row_below.Goals as goal
 
-pub returns-then-words-at : goal.returns-then-words-at
+pub returns-then-row-bound : goal.returns-then-row-bound
 unfolding row_below?
-returns-then-words-at c = rw (lt-ltb _ _ c.if-words-at.true)
+returns-then-row-bound c = search (rules, tests)
 
-pub returns-else-words-at : goal.returns-else-words-at
+pub returns-else-row-bound : goal.returns-else-row-bound
 unfolding row_below?
-returns-else-words-at c = rw (le-ltb _ _ c.if-words-at.false)
+returns-else-row-bound c = search (rules, tests)

@@ -1,39 +1,25 @@
+use Prim.Native.Nat.{◌+◌, ◌-◌, suc}
 use Rattle.bdd.proofs.DifferenceLaws.{writing_begins, writing-ends, writing-on}
+use mathlib.Core.Bool.{Bool, cond, false, true}
+use mathlib.Core.Path.{◌≡◌, refl}
+use mir.Val.{bool_byte}
+use native.Mathlib.Nat.{sub-zero}
+use native.Mathlib.Numerals.{add-one}
 use native.Mathlib.Omega.{arith}
 use Rattle.bdd.proofs.difference.first_difference.Goals as goal
 
-pub loop-level-init : goal.loop-level-init
-loop-level-init c =
-    let a = c.args in
-    writing_begins a.rows.now a.used a.inputs a.f a.g a.setting.now c.requires.first c.requires.second
+byte_of : (b : Bool) → 48 + bool_byte b ≡ cond b 49 48
+byte_of false = refl
+byte_of true = refl
 
-pub choose-c-requires : goal.choose-c-requires
-choose-c-requires c =
-    let room = c.requires.store.room in
-    (omega (arith, c.loop-level.invariant.first.stored, room.used, room.long), omega (arith, c.loop-level.invariant.second.stored, room.used, room.long))
+pub loop-i-init : goal.loop-i-init
+loop-i-init c = rw (sub-zero c.args.inputs) (writing_begins c.requires.first c.requires.second c.args.setting.now)
 
-pub overflow_sub-setting : goal.overflow_sub-setting
-overflow_sub-setting c = omega (arith, c.loop-level.invariant.at)
-
-pub bounds-setting-inputs : goal.bounds-setting-inputs
-bounds-setting-inputs c =
-    omega (arith, c.loop-level.invariant.at, c.loop-level.invariant.long, c.requires.long, c.loop-level-test.true)
-
-pub overflow_sub-level : goal.overflow_sub-level
-overflow_sub-level c = omega (arith, c.loop-level-test.true)
-
-pub loop-level-smaller : goal.loop-level-smaller
-loop-level-smaller c = omega (arith, c.loop-level-test.true)
-
-pub loop-level-preserved : goal.loop-level-preserved
-loop-level-preserved c =
-    let a = c.args in
-    let at = c.loop-level in
-    writing-on a.rows.now a.used a.inputs a.f a.g a.setting.now at.setting at.level at.a at.b
-    c.requires.store.canonical c.requires.long at.invariant (omega (arith, c.loop-level-test.true)) c.choose-c.result c.choose-c.ensures
+pub loop-i-preserved : goal.loop-i-preserved
+loop-i-preserved c =
+    let less : c.args.inputs - suc c.loop-i.i ≡ c.args.inputs - c.loop-i.i - 1 = omega arith in
+    rw (c.cofactor_of-a.ensures, c.cofactor_of-b.ensures, c.from.ensures, c.cofactor_of.ensures, c.cofactor_of-in-loop-i.ensures, add-one c.loop-i.i, less)
+    (writing-on c.loop-i.invariant (omega arith) c.requires.long _ (byte_of _))
 
 pub returns : goal.returns
-returns c =
-    let a = c.args in
-    let at = c.loop-level in
-    writing-ends a.rows.now a.used a.inputs a.f a.g a.setting.now at.setting at.level at.a at.b at.invariant c.loop-level-test.false
+returns c = writing-ends c.loop-i.invariant (omega arith)

@@ -14,11 +14,11 @@ overflow_add-result-2 c =
     omega (
       arith,
       c.next_count.ensures a.output,
-      next-few a.table.now a.output (limits_of a.limits),
+      next-few a.table.now.words.now a.output (limits_of a.limits),
       c.made.ensures,
       c.inputs-inputs.ensures,
-      c.requires.well_formed.made,
-      c.requires.well_formed.inputs,
+      c.args.table.now.formed.made,
+      c.args.table.now.formed.inputs,
     )
 
 pub returns : goal.returns
@@ -31,8 +31,8 @@ returns c =
     record {
       problem =
           rw (
-            c.looked_at.ensures ∙ ap₂ (looked_at a.table.now) first vertices,
-            c.looked_at-2.ensures ∙ ap₂ (looked_at a.table.now) second (ap (λ (n : ℕ). n + 1) vertices),
+            c.looked_at.ensures ∙ ap₂ (looked_at a.table.now.words.now) first vertices,
+            c.looked_at-2.ensures ∙ ap₂ (looked_at a.table.now.words.now) second (ap (λ (n : ℕ). n + 1) vertices),
             c.inputs-inputs.ensures,
           ) refl;
       count = ap₂ ◌+◌ vertices (c.next_count.ensures a.output);

@@ -1,25 +1,22 @@
--- Each arm is one kind of record; no loop.
--- The header's counts are tested by the call.
-use Rattle.netlist_model.proofs.StepLaws.{constraint-first, gate-first, malformed-refused, name-first, output-first}
-use Rattle.netlist_model.specs.declared.Due.TheVariants.{First}
-use mathlib.Core.List.{[]}
-use mathlib.Core.Path.{sym}
+-- The tests in their order.
+use Rattle.netlist_model.proofs.StepLaws.{first_other, header_step, known_told, unknown_told}
+use Rattle.std.proofs.Common.{◌∙◌, refl, sym}
 use Rattle.netlist.proofs.check.first_step.Goals as goal
 
-pub returns-in-Malformed : goal.returns-in-Malformed
-returns-in-Malformed c = rw c.in-Malformed.is (sym (malformed-refused [] (First _)))
+pub returns-in_default : goal.returns-in_default
+returns-in_default c = sym (first_other _ _ c.in_default.not-Header)
 
-pub returns-in-Name : goal.returns-in-Name
-returns-in-Name c = rw c.in-Name.is (sym (name-first [] _ _))
+pub returns-in_default-known_edition : goal.returns-in_default-known_edition
+returns-in_default-known_edition c =
+    rw (c.in-Header.is, header_step, unknown_told c.args.role c.in-Header.edition (sym c.known_edition.ensures ∙ c.in_default-known_edition.is)) refl
 
-pub returns-in-Gate : goal.returns-in-Gate
-returns-in-Gate c = rw c.in-Gate.is (sym (gate-first [] _ _ _ _))
+pub returns-then-not-are_limited : goal.returns-then-not-are_limited
+returns-then-not-are_limited c =
+    let known = known_told c.args.role c.in-Header.edition (sym c.known_edition.ensures ∙ c.in-Some.is) in
+    rw (c.in-Header.is, header_step, known.0, sym c.are_limited.ensures ∙ c.if-not-are_limited.true) refl
 
-pub returns-in-Output : goal.returns-in-Output
-returns-in-Output c = rw c.in-Output.is (sym (output-first [] _ _))
-
-pub returns-in-Constraint : goal.returns-in-Constraint
-returns-in-Constraint c = rw c.in-Constraint.is (sym (constraint-first [] _ _))
-
-pub returns-in-Header : goal.returns-in-Header
-returns-in-Header c = rw c.in-Header.is c.header_step.ensures
+pub returns : goal.returns
+returns c =
+    let known = known_told c.args.role c.in-Header.edition (sym c.known_edition.ensures ∙ c.in-Some.is) in
+    rw (c.in-Header.is, header_step, known.0, sym c.are_limited.ensures ∙ c.if-not-are_limited.false)
+    (rw (c.name_count.ensures, c.constraints_due.ensures, known.2, ← known.1) refl)

@@ -1,22 +1,18 @@
--- Each arm is one kind of what is due; no loop.
 -- What is due holds its counts within their limits, and the names in earlier lines are there.
-use Rattle.netlist_model.proofs.PassingLaws.{held-later}
-use Rattle.netlist_model.proofs.StepLaws.{first_unseen}
-use mathlib.Core.Path.{◌∙◌, sym}
+use Rattle.netlist_model.proofs.StepLaws.{first_unseen, unread-refused}
+use Rattle.netlist_model.specs.Records.{line_with}
+use Rattle.netlist_model.specs.code.Passing.{step_of}
+use Rattle.netlist_model.specs.declared.Due.TheVariants.{First}
+use Rattle.netlist_model.specs.declared.Record.{Record}
+use Rattle.std.proofs.Common.{◌∙◌, Option, [], ap, sym}
 use Rattle.netlist.proofs.check.step.Goals as goal
 
-pub later_step-requires : goal.later_step-requires
-later_step-requires c =
-    let p = c.requires in record {
-      counted = held-later (rw c.in-Later.is at p.held);
-      names_there = rw c.in-Later.is at p.seen_there;
-      at_in_bounds = p.at_in_bounds;
-      found_value = c.next_record-found.ensures;
-    }
+pub returns-in_default : goal.returns-in_default
+returns-in_default c = sym (unread-refused _ _ _ (sym c.in_default.is ∙ c.next_record.ensures))
 
 pub returns-in-First : goal.returns-in-First
 returns-in-First c =
-    rw c.in-First.is (c.first_step.ensures ∙ rw c.next_record-found.ensures (sym (first_unseen _ _)))
-
-pub returns-in-Later : goal.returns-in-Later
-returns-in-Later c = rw c.in-Later.is c.later_step.ensures
+    rw c.in-First.is
+    (c.first_step.ensures
+    ∙ ap (λ (x : Option Record). step_of [] (First c.in-First.role) (line_with x [])) (sym c.in-Some.is ∙ c.next_record.ensures)
+    ∙ sym (first_unseen _ _))

@@ -1,5 +1,5 @@
-use Rattle.std.proofs.Common.{eqb-true, subst}
-use Rattle.run_sweep.proofs.InPlaceLaws.{AllInPlace, all-downward, all-next}
+use Rattle.std.proofs.Common.{arith}
+use Rattle.run_sweep.proofs.InPlaceLaws.{all-downward, all-next}
 use Rattle.run_sweep.proofs.graph.is_graph.Goals as goal
 
 pub loop-v-preserved : goal.loop-v-preserved
@@ -8,4 +8,4 @@ loop-v-preserved c = all-next c.args.first c.args.pairs.now c.loop-v.v c.loop-v.
 pub returns : goal.returns
 returns c e =
     all-downward c.args.first c.args.pairs.now c.args.count c.requires.long c.requires.within
-    (subst (AllInPlace c.args.first c.args.pairs.now) (eqb-true c.loop-v.v c.args.count e) c.loop-v.invariant)
+    (λ v l. c.loop-v.invariant v (omega (arith, l, c.loop-v-test.false)))

@@ -1,25 +1,32 @@
 -- The tests decide, in the order of the definition; no loop.
--- One law for each way.
-use Rattle.sweep_look.proofs.LookLaws.{seen-compared, seen-equal, seen-first-lacks, seen-inverse, seen-second-lacks}
+use Rattle.std.proofs.Common.{Some, ap, refl}
 use Rattle.sweep_look.proofs.look.look_at.Goals as goal
+use Rattle.sweep_look.proofs.look.look_at.Goals.{else-is_drawn-via-else-is_drawn, else-is_drawn-via-then-is_drawn+else-is_drawn-2}
+use Rattle.sweep_state.specs.code.Look.{seen_at}
 
-pub returns-then-l-r : goal.returns-then-l-r
-returns-then-l-r c = seen-equal c.args.diagrams.now c.args.stages.now c.args.l.0 c.args.r.0 c.if-l-r.true
+pub returns-then-eq : goal.returns-then-eq
+unfolding seen_at
+returns-then-eq c = rw (← c.if-eq.ensures) refl
 
-pub returns-then-l-negated : goal.returns-then-l-negated
-returns-then-l-negated c = seen-inverse c.args.diagrams.now c.args.stages.now c.args.l.0 c.args.r.0 c.if-l-r.false c.negated.ensures c.if-l-negated.true
+pub returns-then-eq-2 : goal.returns-then-eq-2
+unfolding seen_at
+returns-then-eq-2 c =
+    let inverse = rw c.negated.ensures at c.if-eq-2.ensures in
+    rw (← c.if-eq.ensures, ← inverse) refl
 
 pub returns-then-is_drawn-2 : goal.returns-then-is_drawn-2
+unfolding seen_at
 returns-then-is_drawn-2 c =
-    seen-compared c.args.diagrams.now c.args.stages.now c.args.l.0 c.args.r.0 c.if-l-r.false c.negated.ensures c.if-l-negated.false
-    c.is_drawn.ensures c.if-is_drawn.true c.is_drawn-then-is_drawn.ensures c.if-is_drawn-2.true c.compare.ensures
+    let other = rw c.negated.ensures at c.if-eq-2.ensures in
+    rw (← c.if-eq.ensures, ← other, ← c.is_drawn.ensures, c.if-is_drawn.true, ← c.is_drawn-then-is_drawn.ensures, c.if-is_drawn-2.true)
+    (ap Some c.compare.ensures)
 
-pub returns-else-is_drawn-2 : goal.returns-else-is_drawn-2
-returns-else-is_drawn-2 c =
-    seen-second-lacks c.args.diagrams.now c.args.stages.now c.args.l.0 c.args.r.0 c.if-l-r.false c.negated.ensures c.if-l-negated.false
-    c.is_drawn.ensures c.if-is_drawn.true c.is_drawn-then-is_drawn.ensures c.if-is_drawn-2.false
-
-pub returns-else-is_drawn : goal.returns-else-is_drawn
-returns-else-is_drawn c =
-    seen-first-lacks c.args.diagrams.now c.args.stages.now c.args.l.0 c.args.r.0 c.if-l-r.false c.negated.ensures c.if-l-negated.false
-    c.is_drawn.ensures c.if-is_drawn.false
+pub returns : goal.returns
+unfolding seen_at
+returns c =
+    let other = rw c.negated.ensures at c.if-eq-2.ensures in
+    elim c.else-is_drawn.branch [
+      | else-is_drawn-via-then-is_drawn+else-is_drawn-2 w ↦
+          rw (← c.if-eq.ensures, ← other, ← c.is_drawn.ensures, w.if-is_drawn.true, ← w.is_drawn-then-is_drawn.ensures, w.if-is_drawn-2.false) refl
+      | else-is_drawn-via-else-is_drawn w ↦ rw (← c.if-eq.ensures, ← other, ← c.is_drawn.ensures, w.if-is_drawn.false) refl
+    ]

@@ -1,47 +1,24 @@
--- What `make` answers decides; no loop.
--- One law for each answer.
-use Rattle.bdd_unique.specs.code.Unique.{MadeAt, MadeFull}
-use Rattle.sweep_start.proofs.InputLaws.{made-small, made-within, row-asked}
-use Rattle.sweep_start.specs.code.Inputs.{level_of}
-use borrow.Author.Rules.{rules}
+-- The row that was made keeps the length of the rows, and drawing or marking those of the other slices; no loop.
+use Rattle.sweep_state.proofs.LongLaws.{drawn-long, lengths-then}
+use Rattle.sweep_state.specs.code.Arrays.{on_rows}
+use Rattle.sweep_state.specs.code.Meet.{workspace}
+use Rattle.sweep_state.specs.code.Sweep.{lent}
+use lib.ListN.{length-set}
 use mathlib.Core.Path.{refl}
-use native.Mathlib.Omega.{arith}
 use Rattle.sweep_start.proofs.inputs.give_row.Goals as goal
 
-pub make-made-requires : goal.make-made-requires
-make-made-requires c =
-    let q = row-asked c.requires in record {
-      store = q.store;
-      level = (q.deep, q.small);
-      low = q.low;
-      high = q.high;
-    }
+pub returns-in-Some-clause-long : goal.returns-in-Some-clause-long
+returns-in-Some-clause-long c =
+    let s = c.args.s.now in
+    let row = c.in-Some.ensures in
+    rw (c.draw.ensures, row.left)
+    (lengths-then {b = workspace s.pairs.now (on_rows c.make_row.new.s.rows.now (lent s).arrays)}
+    (record { pairs = refl; diagrams = refl; stages = refl; rows = row.long; marks = refl })
+    (drawn-long c.args.v c.in-Some.reference 1 (workspace s.pairs.now (on_rows c.make_row.new.s.rows.now (lent s).arrays))))
 
-pub overflow_cast-reference : goal.overflow_cast-reference
-overflow_cast-reference c =
-    let made : MadeAt c.args.rows.now c.make-made.new.rows c.args.task.rows c.args.used (level_of c.args.task c.args.v) 0 1 c.in-At.reference c.in-At.used = rw c.in-At.is at c.make-made.ensures in
-    omega (arith, made-small made)
-
-pub draw-requires : goal.draw-requires
-draw-requires c =
-    let made : MadeAt c.args.rows.now c.make-made.new.rows c.args.task.rows c.args.used (level_of c.args.task c.args.v) 0 1 c.in-At.reference c.in-At.used = rw c.in-At.is at c.make-made.ensures in
-    let q = c.requires in record {
-      words = (q.diagram_within, (q.stage-within, q.mark-within));
-      row = (made-within made, q.few);
-    }
-
-pub returns-in-At : goal.returns-in-At
-returns-in-At c =
-    record {
-      rows = c.make-made.new.rows;
-      reference = c.in-At.reference;
-      long = search rules;
-      made = rw c.in-At.is at c.make-made.ensures;
-      drawn = c.draw.ensures;
-    }
-
-pub returns-in-Full : goal.returns-in-Full
-returns-in-Full c =
-    let full : MadeFull c.args.rows.now c.make-made.new.rows c.args.task.rows c.args.used (level_of c.args.task c.args.v) 0 1 =
-    rw c.in-Full.is at c.make-made.ensures in
-    record { full = full; marked = rw full.same refl }
+pub returns-in-None-clause-long : goal.returns-in-None-clause-long
+returns-in-None-clause-long c =
+    let s = c.args.s.now in
+    let row = c.in-None.ensures in
+    rw (c.mark.ensures, row.left)
+    (record { pairs = refl; diagrams = refl; stages = refl; rows = row.long; marks = length-set s.marks.now c.args.v 3 })

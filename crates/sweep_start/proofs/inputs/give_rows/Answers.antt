@@ -1,24 +1,37 @@
-use Rattle.sweep_start.proofs.InputModel.{along-asks, along_begins, along-ends, along-goes-on, along-short}
-use borrow.Author.Rules.{rules}
-use native.Mathlib.Omega.{arith}
+use Rattle.std.proofs.lemmas.Result.{err_from_is_err_and}
+use Rattle.sweep_start.proofs.InputModel.{along-ends, along-goes-on, along-short}
+use Rattle.sweep_start.specs.code.Inputs.{RowGiven, RowLacked}
+use Rattle.sweep_state.proofs.LongLaws.{lengths-then}
+use Rattle.sweep_state.specs.code.Sweep.{lent, put_arrays, put_counts}
+use Rattle.sweep_state.specs.declared.sweep.Sweep.{Sweep}
+use Rattle.sweep_state.specs.declared.task.Task.{Task}
+use mathlib.Core.Path.{◌∙◌, ap, subst}
 use Rattle.sweep_start.proofs.inputs.give_rows.Goals as goal
 
-pub loop-v-init : goal.loop-v-init
-loop-v-init c = along_begins c.requires
-
-pub give_row-given-requires : goal.give_row-given-requires
-give_row-given-requires c = along-asks c.loop-v.invariant c.requires c.loop-v-test.true
-
-pub returns-in-Full : goal.returns-in-Full
-returns-in-Full c = λ x g. along-short c.loop-v.invariant c.loop-v-test.true (rw c.in-Full.is at c.give_row-given.ensures) x g
-
-pub loop-v-smaller : goal.loop-v-smaller
-loop-v-smaller c = omega (arith, c.loop-v-test.true)
+pub returns-in_err-give_row-clause-given : goal.returns-in_err-give_row-clause-given
+returns-in_err-give_row-clause-given c =
+    let p = err_from_is_err_and c.from_residual.result c.from_residual.ensures.1 in
+    let given = c.in_err-give_row.ensures.given in
+    let at = c.loop-v.s in
+    let after = c.give_row.new.s in
+    let lacked = subst (λ (t : Task). RowLacked t c.loop-v.v at.used (lent at).arrays (lent after).arrays) (ap (λ (z : Sweep). z.task) c.loop-v.invariant.rest) given.0 in
+    rw (p.1, p.2, given.1, given.2) (λ x g. along-short c.loop-v.invariant.along c.loop-v-test.true lacked x g)
 
 pub loop-v-preserved : goal.loop-v-preserved
 loop-v-preserved c =
-    along-goes-on c.loop-v.invariant c.loop-v-test.true (rw c.in-Row.is at c.give_row-given.ensures)
-    (search rules) (search rules) (search rules) (search rules)
+    let row = c.in_ok-give_row.ensures in
+    let at = c.loop-v.s in
+    let after = c.give_row.new.s in
+    let given =
+    subst (λ (t : Task). RowGiven t c.loop-v.v at.used (lent at).arrays (lent after).arrays after.used) (ap (λ (z : Sweep). z.task) c.loop-v.invariant.rest) row.given in
+    record {
+      along = along-goes-on c.loop-v.invariant.along c.loop-v-test.true given;
+      rest = row.left ∙ ap (λ (z : Sweep). put_arrays (lent after).arrays (put_counts after.used z.steps z)) c.loop-v.invariant.rest;
+      long = lengths-then c.loop-v.invariant.long row.long;
+    }
 
-pub returns : goal.returns
-returns c = λ x g. along-ends c.loop-v.invariant c.loop-v-test.false x g
+pub returns-clause-given : goal.returns-clause-given
+returns-clause-given c = λ x g. along-ends c.loop-v.invariant.along c.loop-v-test.false x g
+
+pub returns-in_err-give_row-clause-long : goal.returns-in_err-give_row-clause-long
+returns-in_err-give_row-clause-long c = lengths-then c.loop-v.invariant.long c.in_err-give_row.ensures.long

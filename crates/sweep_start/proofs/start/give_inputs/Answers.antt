@@ -1,24 +1,47 @@
 -- Whether every input got its row decides; no loop.
 -- One law for each answer, for all functions and entry rows.
-use Rattle.sweep_state.specs.code.Meet.{workspace}
-use Rattle.sweep_state.specs.code.Arrays.{arrays}
 use Rattle.sweep_start.proofs.BeginModel.{given-goes, given_looks, given-short, giving_framed}
+use Rattle.sweep_state.proofs.LongLaws.{kept-put}
+use Rattle.sweep_state.specs.code.Meet.{workspace}
+use Rattle.sweep_state.specs.code.Sweep.{lent}
+use mathlib.Core.Path.{refl}
 use Rattle.sweep_start.proofs.start.give_inputs.Goals as goal
 
-pub give_rows-inputs-requires : goal.give_rows-inputs-requires
-give_rows-inputs-requires c = giving_framed c.requires
+pub give_rows-requires : goal.give_rows-requires
+give_rows-requires c = rw c.requires.counts.0 (giving_framed c.requires.giving)
 
-pub look-seen-requires : goal.look-seen-requires
-look-seen-requires c =
-    let give-rows = c.give_rows-inputs in
-    given_looks c.args.task (workspace c.args.pairs.now (arrays c.args.diagrams.now c.args.stages.now c.args.rows.now c.args.marks.now)) (arrays give-rows.new.diagrams give-rows.new.stages give-rows.new.rows give-rows.new.marks) c.in-All.used c.in-All.is give-rows.ensures c.requires
+pub look-requires : goal.look-requires
+look-requires c =
+    let s = c.args.s.now in
+    let after = c.give_rows.new.s in
+    rw c.in-Ok.ensures.left
+    (given_looks s.task (lent s) (lent after).arrays after.used (rw c.requires.counts.0 at c.in-Ok.ensures.given) c.requires.giving)
 
-pub returns-in-All : goal.returns-in-All
-returns-in-All c =
-    let give-rows = c.give_rows-inputs in
-    given-goes c.args.task (workspace c.args.pairs.now (arrays c.args.diagrams.now c.args.stages.now c.args.rows.now c.args.marks.now)) (arrays give-rows.new.diagrams give-rows.new.stages give-rows.new.rows give-rows.new.marks) c.in-All.used c.in-All.is give-rows.ensures c.look-seen.result c.look-seen.ensures c.after_look.ensures
+pub returns-in-Ok-clause-given : goal.returns-in-Ok-clause-given
+returns-in-Ok-clause-given c =
+    let s = c.args.s.now in
+    let after = c.give_rows.new.s in
+    rw (c.after_look.ensures, c.in-Ok.ensures.left, c.requires.counts.1)
+    (given-goes s.task (lent s) (lent after).arrays after.used (rw c.requires.counts.0 at c.in-Ok.ensures.given) c.look.result
+    (rw c.in-Ok.ensures.left at c.look.ensures))
 
-pub returns-in-Short : goal.returns-in-Short
-returns-in-Short c =
-    let give-rows = c.give_rows-inputs in
-    given-short c.args.task (workspace c.args.pairs.now (arrays c.args.diagrams.now c.args.stages.now c.args.rows.now c.args.marks.now)) (arrays give-rows.new.diagrams give-rows.new.stages give-rows.new.rows give-rows.new.marks) c.in-Short.v c.in-Short.used c.in-Short.is give-rows.ensures
+pub returns-in-Err-clause-given : goal.returns-in-Err-clause-given
+returns-in-Err-clause-given c =
+    let s = c.args.s.now in
+    let after = c.give_rows.new.s in
+    rw (c.in-Err.ensures.left, c.requires.counts.1)
+    (given-short s.task (lent s) (lent after).arrays c.in-Err.v after.used (rw c.requires.counts.0 at c.in-Err.ensures.given))
+
+pub returns-in-Ok-clause-kept : goal.returns-in-Ok-clause-kept
+returns-in-Ok-clause-kept c =
+    let s = c.args.s.now in
+    let after = c.give_rows.new.s in
+    rw c.in-Ok.ensures.left
+    (kept-put s s.look.now (workspace s.pairs.now (lent after).arrays) after.used s.steps refl (rw c.in-Ok.ensures.left at c.in-Ok.ensures.long))
+
+pub returns-in-Err-clause-kept : goal.returns-in-Err-clause-kept
+returns-in-Err-clause-kept c =
+    let s = c.args.s.now in
+    let after = c.give_rows.new.s in
+    rw c.in-Err.ensures.left
+    (kept-put s s.look.now (workspace s.pairs.now (lent after).arrays) after.used s.steps refl (rw c.in-Err.ensures.left at c.in-Err.ensures.long))

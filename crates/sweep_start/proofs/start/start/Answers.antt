@@ -1,29 +1,36 @@
 -- What the first look sees decides; no loop.
 -- One law for each way, for all functions.
-use Rattle.sweep_state.specs.code.Meet.{workspace}
-use Rattle.sweep_state.specs.code.Arrays.{arrays}
-use Rattle.sweep_start.proofs.BeginModel.{prepared-giving, prepared_looks, start-ends, start_gives}
+use Rattle.std.proofs.lemmas.Result.{err_from_is_err_and}
+use Rattle.sweep_start.proofs.BeginModel.{going-nothing, prepared-giving, prepared_looks, start_gives, start-stops}
+use Rattle.sweep_state.proofs.LongLaws.{kept-then}
+use Rattle.sweep_state.specs.code.Sweep.{lent}
+use mathlib.Core.Path.{sym}
 use Rattle.sweep_start.proofs.start.start.Goals as goal
 
-pub look-seen-requires : goal.look-seen-requires
-look-seen-requires c =
-    let prepare = c.prepare in
-    prepared_looks c.args.task (workspace c.args.pairs.now (arrays c.args.diagrams.now c.args.stages.now c.args.rows.now c.args.marks.now)) (workspace prepare.new.pairs (arrays prepare.new.diagrams prepare.new.stages prepare.new.rows prepare.new.marks)) prepare.ensures c.requires
+pub look-requires : goal.look-requires
+look-requires c =
+    let kept = c.prepare.ensures.kept in
+    rw kept.task (prepared_looks c.args.s.now.task (lent c.args.s.now) (lent c.prepare.new.s) c.prepare.ensures.prepared c.requires)
 
-pub give_inputs-requires : goal.give_inputs-requires
-give_inputs-requires c =
-    let prepare = c.prepare in
-    prepared-giving c.args.task (workspace c.args.pairs.now (arrays c.args.diagrams.now c.args.stages.now c.args.rows.now c.args.marks.now)) (workspace prepare.new.pairs (arrays prepare.new.diagrams prepare.new.stages prepare.new.rows prepare.new.marks)) prepare.ensures c.requires
+pub give_inputs-requires-clause-giving : goal.give_inputs-requires-clause-giving
+give_inputs-requires-clause-giving c =
+    let kept = c.prepare.ensures.kept in
+    rw kept.task (prepared-giving c.args.s.now.task (lent c.args.s.now) (lent c.prepare.new.s) c.prepare.ensures.prepared c.requires)
 
-pub returns-in-Nothing : goal.returns-in-Nothing
-returns-in-Nothing c =
-    let give-inputs = c.give_inputs in
-    let look = c.look-seen in
-    let prepare = c.prepare in
-    start_gives c.args.task (workspace c.args.pairs.now (arrays c.args.diagrams.now c.args.stages.now c.args.rows.now c.args.marks.now)) (workspace prepare.new.pairs (arrays prepare.new.diagrams prepare.new.stages prepare.new.rows prepare.new.marks)) prepare.ensures look.ensures c.in-Nothing.is (workspace prepare.new.pairs (arrays give-inputs.new.diagrams give-inputs.new.stages give-inputs.new.rows give-inputs.new.marks)) give-inputs.result give-inputs.ensures
+pub returns-in_err-after_look-clause-started : goal.returns-in_err-after_look-clause-started
+returns-in_err-after_look-clause-started c =
+    let p = err_from_is_err_and c.from_residual.result c.from_residual.ensures.1 in
+    let n = c.prepare.ensures in
+    rw (p.1, p.2)
+    (start-stops c.args.s.now.task (lent c.args.s.now) (lent c.prepare.new.s) n.prepared (rw n.kept.task at c.look.ensures) n.counts.0 n.counts.1
+    (sym c.in_err-after_look.ensures))
 
-pub returns-in-Decided : goal.returns-in-Decided
-returns-in-Decided c =
-    let look = c.look-seen in
-    let prepare = c.prepare in
-    start-ends c.args.task (workspace c.args.pairs.now (arrays c.args.diagrams.now c.args.stages.now c.args.rows.now c.args.marks.now)) (workspace prepare.new.pairs (arrays prepare.new.diagrams prepare.new.stages prepare.new.rows prepare.new.marks)) prepare.ensures look.ensures c.in-Decided.is
+pub returns-clause-started : goal.returns-clause-started
+returns-clause-started c =
+    let n = c.prepare.ensures in
+    let e = going-nothing c.look.result c.prepare.new.s.used c.prepare.new.s.steps (sym c.in_ok-after_look.ensures) in
+    start_gives c.args.s.now.task (lent c.args.s.now) (lent c.prepare.new.s) n.prepared (rw n.kept.task at c.look.ensures) e (lent c.give_inputs.new.s)
+    c.give_inputs.new.s.used c.give_inputs.new.s.steps c.give_inputs.result (rw n.kept.task at c.give_inputs.ensures.given)
+
+pub returns-clause-kept : goal.returns-clause-kept
+returns-clause-kept c = kept-then c.prepare.ensures.kept c.give_inputs.ensures.kept

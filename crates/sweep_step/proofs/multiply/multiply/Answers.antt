@@ -1,57 +1,60 @@
 -- The product's answer decides; no loop.
 -- One law for each answer, in every context.
-use Rattle.sweep_state.specs.code.Meet.{workspace}
+use Rattle.sweep_step.proofs.MultiplyModel.{lacking, multiply-concludes, multiply-lacks, product-asked, product-ended}
+use Rattle.sweep_state.proofs.LongLaws.{kept-put, kept-then}
 use Rattle.sweep_state.specs.code.Arrays.{arrays}
-use Rattle.sweep_step.proofs.MultiplyModel.{lacking-rows, lacking-steps, multiply-concludes, multiply-lacks-rows, multiply-lacks-steps, product-asked, product-ended}
-use borrow.Author.Rules.{rules}
-use lib.ListN.{length}
-use mathlib.Core.Path.{◌≡◌}
-use native.Mathlib.Omega.{arith}
+use Rattle.sweep_state.specs.code.Meet.{workspace}
+use lib.ListN.{length-set, set}
+use mathlib.Core.Path.{◌∙◌, refl}
 use Rattle.sweep_step.proofs.multiply.multiply.Goals as goal
 
-pub take_product-product-requires : goal.take_product-product-requires
-take_product-product-requires c = product-asked c.requires.due.on
+pub take_product-requires : goal.take_product-requires
+take_product-requires c = product-asked c.args.v c.args.s.now c.requires.due.on
 
-pub conclude-requires : goal.conclude-requires
-conclude-requires c = record {
-  ended = record { setting = _; ended = product-ended c.requires.due.on c.take_product-product.new.rows c.in-Done.is c.take_product-product.ensures (search rules) };
-  long = c.requires.long;
-}
+pub conclude-requires-clause-ended : goal.conclude-requires-clause-ended
+conclude-requires-clause-ended c =
+    let taken = c.in-Ok.ensures in
+    rw taken.left (record { setting = _; ended = product-ended c.requires.due.on c.take_product.new.s.rows.now taken.taken taken.long })
 
-pub overflow_sub-added : goal.overflow_sub-added
-overflow_sub-added c = omega (arith, (lacking-rows c.requires.due.on c.take_product-product.new.rows c.in-ShortOfRows.is c.take_product-product.ensures).0.1)
+pub break_off-requires-clause-words : goal.break_off-requires-clause-words
+break_off-requires-clause-words c =
+    let taken = c.in-Err.ensures in
+    rw taken.left (lacking c.requires.due.on c.take_product.new.s.rows.now c.in-Err.short taken.taken).1
 
-pub break_off-requires : goal.break_off-requires
-break_off-requires c =
-    let t =
-    lacking-rows c.requires.due.on c.take_product-product.new.rows c.in-ShortOfRows.is c.take_product-product.ensures in
-    record { store = t.0; words = t.1 }
+pub returns-in-Ok-clause-taken : goal.returns-in-Ok-clause-taken
+returns-in-Ok-clause-taken c =
+    let taken = c.in-Ok.ensures in
+    multiply-concludes c.args.v c.args.s.now c.take_product.new.s.rows.now
+    (λ x d. product-ended d c.take_product.new.s.rows.now taken.taken taken.long)
+    c.conclude.new.s c.conclude.result (rw taken.left at c.conclude.ensures.concluded)
 
-pub overflow_sub-added-in-ShortOfSteps : goal.overflow_sub-added-in-ShortOfSteps
-overflow_sub-added-in-ShortOfSteps c = omega (arith, (lacking-steps c.requires.due.on c.take_product-product.new.rows c.in-ShortOfSteps.is c.take_product-product.ensures).0.1)
+pub returns-in-Err-clause-taken : goal.returns-in-Err-clause-taken
+returns-in-Err-clause-taken c = λ x d.
+    let taken = c.in-Err.ensures in
+    rw (c.end_by.ensures, c.break_off.ensures.left, taken.left)
+    (multiply-lacks d c.take_product.new.s.rows.now c.in-Err.short taken.taken (rw taken.left at c.break_off.ensures.given_back)
+    (c.break_off.ensures.long ∙ taken.long))
 
-pub break_off-requires-in-ShortOfSteps : goal.break_off-requires-in-ShortOfSteps
-break_off-requires-in-ShortOfSteps c =
-    let t =
-    lacking-steps c.requires.due.on c.take_product-product.new.rows c.in-ShortOfSteps.is c.take_product-product.ensures in
-    record { store = t.0; words = t.1 }
+pub returns-in-Err-clause-passed : goal.returns-in-Err-clause-passed
+returns-in-Err-clause-passed c = record { short = c.in-Err.short; ends = c.end_by.ensures }
 
-pub returns-in-Done : goal.returns-in-Done
-returns-in-Done c =
-    let start = c.args in
-    let taken = c.take_product-product in
-    let concluded = c.conclude in
-    let long : length taken.new.rows ≡ length start.rows.now = search rules in
-    multiply-concludes start.task start.v start.steps
-    (workspace start.pairs.now (arrays start.diagrams.now start.stages.now start.rows.now start.marks.now))
-    (λ x d. product-ended d taken.new.rows c.in-Done.is taken.ensures long)
-    (workspace concluded.new.pairs (arrays concluded.new.diagrams concluded.new.stages concluded.new.rows concluded.new.marks))
-    concluded.result concluded.ensures
+pub returns-in-Ok-clause-same : goal.returns-in-Ok-clause-same
+returns-in-Ok-clause-same c =
+    let taken = c.in-Ok.ensures in
+    let s = c.args.s.now in
+    let after = c.take_product.new.s in
+    kept-then
+    (rw taken.left
+    (kept-put s s.look.now (workspace s.pairs.now (arrays s.diagrams.now s.stages.now after.rows.now s.marks.now)) after.used after.steps refl
+    (record { pairs = refl; diagrams = refl; stages = refl; rows = taken.long; marks = refl })))
+    c.conclude.ensures.same
 
-pub returns-in-ShortOfRows : goal.returns-in-ShortOfRows
-returns-in-ShortOfRows c = λ x d.
-    multiply-lacks-rows d c.take_product-product.new.rows c.in-ShortOfRows.is c.take_product-product.ensures c.break_off.ensures.given_back (search rules) c.break_off.ensures.marks_after
-
-pub returns-in-ShortOfSteps : goal.returns-in-ShortOfSteps
-returns-in-ShortOfSteps c = λ x d.
-    multiply-lacks-steps d c.take_product-product.new.rows c.in-ShortOfSteps.is c.take_product-product.ensures c.break_off-in-ShortOfSteps.ensures.given_back (search rules) c.break_off-in-ShortOfSteps.ensures.marks_after
+pub returns-in-Err-clause-same : goal.returns-in-Err-clause-same
+returns-in-Err-clause-same c =
+    let taken = c.in-Err.ensures in
+    let s = c.args.s.now in
+    let after = c.break_off.new.s in
+    let marks = set s.marks.now c.args.v 3 in
+    rw (c.break_off.ensures.left, taken.left)
+    (kept-put s s.look.now (workspace s.pairs.now (arrays s.diagrams.now s.stages.now after.rows.now marks)) s.used c.take_product.new.s.steps refl
+    (record { pairs = refl; diagrams = refl; stages = refl; rows = c.break_off.ensures.long ∙ taken.long; marks = length-set s.marks.now c.args.v 3 }))

@@ -1,26 +1,63 @@
 -- The size decides; no loop.
 -- One law for each way, in every setting of the product.
-use Rattle.sweep_step.proofs.SettleModel.{ended-small, settle_asks, settle_back, settle-drops, settle-meets}
-use borrow.Author.Rules.{rules}
-use native.Mathlib.Omega.{arith}
+use Rattle.sweep_step.proofs.SettleModel.{settle_asks, settle_back, settle-drops, settle-meets}
+use Prim.Native.Nat.{◌*◌}
+use Rattle.sweep_graph.specs.code.Stages.{with_stage}
+use Rattle.sweep_state.proofs.LongLaws.{kept-put, met-long}
+use Rattle.sweep_state.specs.code.Arrays.{arrays}
+use Rattle.sweep_state.specs.code.Meet.{met_workspace, workspace}
+use Rattle.sweep_state.specs.code.Sweep.{lent}
+use lib.ListN.{length-set, set}
+use mathlib.Core.Path.{refl}
 use Rattle.sweep_step.proofs.settle.settle.Goals as goal
 
-pub drop_vertex-requires : goal.drop_vertex-requires
-drop_vertex-requires c =
-    let t =
-    settle_back c.requires.ended.ended c.size-measured.ensures in
-    record { store = t.0; words = t.1 }
+pub drop_vertex-requires-clause-words : goal.drop_vertex-requires-clause-words
+drop_vertex-requires-clause-words c =
+    let m = c.measure-measured.ensures in
+    rw m.same ((settle_back c.requires.ended.ended m.sized).1)
 
-pub returns-then-task-measured : goal.returns-then-task-measured
-returns-then-task-measured c = λ x e.
-    settle-drops e c.size-measured.ensures c.if-task-measured.true c.drop_vertex.ensures.given_back (search rules)
-    c.drop_vertex.ensures.stages_after c.drop_vertex.ensures.marks_after
-
-pub overflow_cast-reference : goal.overflow_cast-reference
-overflow_cast-reference c = omega (arith, ended-small c.requires.ended.ended)
+pub returns-then-s-measured-clause-settled : goal.returns-then-s-measured-clause-settled
+returns-then-s-measured-clause-settled c = λ x e.
+    let m = c.measure-measured.ensures in
+    rw (c.drop_vertex.ensures.left, m.same)
+    (settle-drops e m.sized (rw m.same at c.if-s-measured.true) (rw m.same at c.drop_vertex.ensures.given_back)
+    (rw m.same at c.drop_vertex.ensures.long) refl refl)
 
 pub meet-requires : goal.meet-requires
-meet-requires c = settle_asks c.requires.ended.ended c.size-measured.ensures c.args.look.now c.requires.long
+meet-requires c =
+    let m = c.measure-measured.ensures in
+    rw m.same (settle_asks c.requires.ended.ended m.sized c.args.s.now.look.now c.requires.long)
 
-pub returns : goal.returns
-returns c = λ x e. settle-meets e c.size-measured.ensures c.if-task-measured.false c.meet.ensures
+pub returns-clause-settled : goal.returns-clause-settled
+returns-clause-settled c = λ x e.
+    let m = c.measure-measured.ensures in
+    rw (c.meet.ensures.left, m.same) (settle-meets e m.sized (rw m.same at c.if-s-measured.false) refl)
+
+pub returns-then-s-measured-clause-same : goal.returns-then-s-measured-clause-same
+returns-then-s-measured-clause-same c =
+    let m = c.measure-measured.ensures in
+    let s = c.args.s.now in
+    rw (c.drop_vertex.ensures.left, m.same) (
+      kept-put s s.look.now
+          (workspace s.pairs.now (arrays s.diagrams.now (with_stage s.stages.now c.args.v 4) c.drop_vertex.new.s.rows.now (set s.marks.now c.args.v 2)))
+          c.args.kept s.steps refl
+          (record {
+            pairs = refl;
+            diagrams = refl;
+            stages = length-set s.stages.now (2 * c.args.v) 4;
+            rows = rw m.same at c.drop_vertex.ensures.long;
+            marks = length-set s.marks.now c.args.v 2;
+          }),
+      refl,
+    )
+
+pub returns-clause-same : goal.returns-clause-same
+returns-clause-same c =
+    let m = c.measure-measured.ensures in
+    let s = c.args.s.now in
+    let size = c.measure-measured.result in
+    rw (c.meet.ensures.left, m.same) (
+      kept-put s c.meet.new.s.look.now (met_workspace s.task c.args.v c.args.reference size (lent s)) s.used s.steps (rw m.same at c.meet.ensures.long)
+          (met-long s.task c.args.v c.args.reference size (lent s)),
+      refl,
+    )

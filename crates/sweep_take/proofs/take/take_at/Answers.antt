@@ -1,26 +1,31 @@
 -- Whether the vertex is merged, and gone already, decides; no loop.
--- One law for each way.
-use Rattle.sweep_graph.proofs.TakeLaws.{merged-read, passed-gone, passed-unmerged, took, unmerged-read}
-use Rattle.sweep_graph.specs.code.Stages.{word_stage}
-use Rattle.sweep_graph.specs.code.Takes.{held}
+use Rattle.sweep_graph.proofs.TakeLaws.{handed_long, merged-read, unmerged-read}
+use Rattle.sweep_graph.specs.code.Takes.{take_words}
 use Rattle.sweep_model.specs.State.{gone?}
-use mathlib.Core.Path.{◌∙◌, ap, sym}
+use Rattle.sweep_state.specs.code.Sweep.{handed}
+use mathlib.Core.Path.{◌∙◌, ap, refl, sym}
+use native.Mathlib.Omega.{arith}
 use Rattle.sweep_take.proofs.take.take_at.Goals as goal
 
 pub returns-then-is_gone : goal.returns-then-is_gone
+unfolding take_words
 returns-then-is_gone c =
-    let merged = merged-read c.args.pairs.now c.args.v c.first_word-x.ensures c.second_word.ensures c.if-x-second_word.true in
-    let left = ap (λ s. gone? (word_stage s)) (sym c.first_word.ensures) ∙ sym c.is_gone.ensures ∙ c.if-is_gone.true in
-    passed-gone c.args.pairs.now c.args.v (held c.args.stages.now c.args.diagrams.now c.args.rows.now) merged left
+    let merged = merged-read c.args.s.now.pairs.now c.args.v (ap (λ p. p.0) c.pair-x.ensures) (ap (λ p. p.1) c.pair-x.ensures) c.if-x-y.true in
+    let left = ap gone? (sym c.stage.ensures) ∙ sym c.is_gone.ensures ∙ c.if-is_gone.true in
+    rw (merged, left) refl
+
+pub set_stage-requires : goal.set_stage-requires
+set_stage-requires c =
+    rw c.hand_over.ensures (omega (arith, handed_long c.args.v c.pair-x.result.0 (handed c.args.s.now), c.requires.room.stage-within))
 
 pub returns-else-is_gone : goal.returns-else-is_gone
+unfolding take_words
 returns-else-is_gone c =
-    let merged = merged-read c.args.pairs.now c.args.v c.first_word-x.ensures c.second_word.ensures c.if-x-second_word.true in
-    let stays = ap (λ s. gone? (word_stage s)) (sym c.first_word.ensures) ∙ sym c.is_gone.ensures ∙ c.if-is_gone.false in
-    took c.args.pairs.now c.args.v (held c.args.stages.now c.args.diagrams.now c.args.rows.now) merged stays
-    c.first_word-x.ensures c.hand_over.ensures c.set_stage.ensures
+    let merged = merged-read c.args.s.now.pairs.now c.args.v (ap (λ p. p.0) c.pair-x.ensures) (ap (λ p. p.1) c.pair-x.ensures) c.if-x-y.true in
+    let stays = ap gone? (sym c.stage.ensures) ∙ sym c.is_gone.ensures ∙ c.if-is_gone.false in
+    rw (merged, stays, c.set_stage.ensures, c.hand_over.ensures, c.pair-x.ensures) refl
 
-pub returns-else-x-second_word : goal.returns-else-x-second_word
-returns-else-x-second_word c =
-    passed-unmerged c.args.pairs.now c.args.v (held c.args.stages.now c.args.diagrams.now c.args.rows.now)
-    (unmerged-read c.args.pairs.now c.args.v c.first_word-x.ensures c.second_word.ensures c.if-x-second_word.false)
+pub returns-else-x-y : goal.returns-else-x-y
+unfolding take_words
+returns-else-x-y c =
+    rw (unmerged-read c.args.s.now.pairs.now c.args.v (ap (λ p. p.0) c.pair-x.ensures) (ap (λ p. p.1) c.pair-x.ensures) c.if-x-y.false) refl

@@ -1,22 +1,27 @@
 -- The vertex that waits opens, and the scan goes on from the next; no loop.
 -- One law for what the scan asks, and one for what it reached.
-use Rattle.sweep_state.specs.code.Meet.{workspace}
+use Prim.Native.Nat.{◌*◌}
+use Rattle.sweep_graph.specs.code.Stages.{with_stage}
+use Rattle.sweep_state.proofs.LongLaws.{kept-put, kept-then}
 use Rattle.sweep_state.specs.code.Arrays.{arrays}
+use Rattle.sweep_state.specs.code.Meet.{workspace}
+use lib.ListN.{length-set}
+use mathlib.Core.Path.{refl}
 use Rattle.sweep_turn.proofs.TurnModel.{open-asks, open-ends}
-use native.Mathlib.Omega.{arith}
 use Rattle.sweep_turn.proofs.turn.open.Goals as goal
 
-pub scan-requires : goal.scan-requires
-scan-requires c = record {
-  scan = open-asks (workspace c.args.pairs.now (arrays c.args.diagrams.now c.args.stages.now c.args.rows.now c.args.marks.now)) c.set_stage.ensures c.requires.opening;
-  long = (omega (arith, c.requires.opening.on.inside), c.requires.long);
-}
+pub scan-requires-clause-scan : goal.scan-requires-clause-scan
+scan-requires-clause-scan c = rw c.set_stage.ensures (open-asks c.args.v c.args.s.now c.requires.opening)
 
-pub returns : goal.returns
-returns c =
-    let scanned = c.scan in
-    open-ends c.args.task c.args.v c.args.used c.args.steps
-    (workspace c.args.pairs.now (arrays c.args.diagrams.now c.args.stages.now c.args.rows.now c.args.marks.now))
-    c.set_stage.ensures
-    (workspace scanned.new.pairs (arrays scanned.new.diagrams scanned.new.stages scanned.new.rows scanned.new.marks))
-    scanned.result scanned.ensures
+pub returns-clause-opened : goal.returns-clause-opened
+returns-clause-opened c =
+    open-ends c.args.v c.args.s.now c.scan.new.s c.scan.result (rw c.set_stage.ensures at c.scan.ensures.scanned)
+
+pub returns-clause-kept : goal.returns-clause-kept
+returns-clause-kept c =
+    let s = c.args.s.now in
+    kept-then
+    (rw c.set_stage.ensures
+    (kept-put s s.look.now (workspace s.pairs.now (arrays s.diagrams.now (with_stage s.stages.now c.args.v 2) s.rows.now s.marks.now)) s.used s.steps refl
+    (record { pairs = refl; diagrams = refl; stages = length-set s.stages.now (2 * c.args.v) 2; rows = refl; marks = refl })))
+    c.scan.ensures.kept

@@ -1,28 +1,25 @@
 -- Whether the vertex is ready decides; no loop.
 -- One law for each way, in every context.
-use Rattle.sweep_state.specs.code.Meet.{workspace}
-use Rattle.sweep_state.specs.code.Arrays.{arrays}
-use Rattle.sweep_turn.proofs.VisitModel.{ready-asked, ready-due, visit-passes, visit-went}
+use Rattle.std.proofs.lemmas.Result.{err_from_is_err_and}
+use Rattle.sweep_turn.proofs.VisitModel.{ready-asked, visit-due, visit-passes, visit-seen, visit-short}
 use Rattle.sweep_turn.proofs.visit.visit.Goals as goal
 
 pub is_ready-requires : goal.is_ready-requires
 is_ready-requires c = ready-asked c.requires.scan.here c.requires.long.0
 
-pub multiply-step-requires : goal.multiply-step-requires
-multiply-step-requires c = record {
-  due = record { context = c.requires.scan.context; on = ready-due c.requires.scan.here c.requires.long.0 c.is_ready.ensures c.if-is_ready.true };
-  long = c.requires.long.1;
-}
+pub multiply-requires-clause-due : goal.multiply-requires-clause-due
+multiply-requires-clause-due c = visit-due c.args.v c.args.s.now c.requires.long.0 c.is_ready.ensures c.if-is_ready.true c.requires.scan
 
-pub returns-then-is_ready : goal.returns-then-is_ready
-returns-then-is_ready c =
-    let multiply = c.multiply-step in
-    let if1 = c.if-is_ready in
-    let is-ready = c.is_ready in
-    visit-went c.args.task c.args.v c.args.used c.args.steps (workspace c.args.pairs.now (arrays c.args.diagrams.now c.args.stages.now c.args.rows.now c.args.marks.now)) c.requires.long.0 is-ready.ensures if1.true
-    (workspace multiply.new.pairs (arrays multiply.new.diagrams multiply.new.stages multiply.new.rows multiply.new.marks))
-    multiply.result c.after_product.ensures multiply.ensures
+pub returns-in_err-seen-clause-visited : goal.returns-in_err-seen-clause-visited
+returns-in_err-seen-clause-visited c =
+    let p = err_from_is_err_and c.from_residual.result c.from_residual.ensures.1 in
+    rw (p.1, p.2)
+    (visit-short c.args.v c.args.s.now c.requires.long.0 c.is_ready.ensures c.if-is_ready.true c.multiply.new.s c.in_err-seen.ensures.taken)
 
-pub returns : goal.returns
-returns c =
-    visit-passes c.args.task c.args.v c.args.used c.args.steps (workspace c.args.pairs.now (arrays c.args.diagrams.now c.args.stages.now c.args.rows.now c.args.marks.now)) c.requires.long.0 c.is_ready.ensures c.if-is_ready.false
+pub returns-then-is_ready-clause-visited : goal.returns-then-is_ready-clause-visited
+returns-then-is_ready-clause-visited c =
+    rw c.after_look.ensures
+    (visit-seen c.args.v c.args.s.now c.requires.long.0 c.is_ready.ensures c.if-is_ready.true c.multiply.new.s c.in_ok-seen.seen c.in_ok-seen.ensures.taken)
+
+pub returns-clause-visited : goal.returns-clause-visited
+returns-clause-visited c = visit-passes c.args.v c.args.s.now c.requires.long.0 c.is_ready.ensures c.if-is_ready.false

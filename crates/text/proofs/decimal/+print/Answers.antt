@@ -6,9 +6,6 @@ pub bounds-out-at : goal.bounds-out-at
 bounds-out-at t c =
     digit-fits c.args.out.now c.args.at c.args.n c.requires c.if-n-lt10.true
 
-pub overflow_add-result : goal.overflow_add-result
-overflow_add-result t c = omega (arith, bounds-out-at t c)
-
 pub returns-then-n-lt10 : goal.returns-then-n-lt10
 returns-then-n-lt10 t c =
     let a = c.args in

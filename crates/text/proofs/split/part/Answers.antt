@@ -1,41 +1,19 @@
-use Prim.Native.Nat.{◌+◌, ◌<◌}
-use Rattle.text.proofs.SplitSteps.{part_ends, part_here, part_next}
-use borrow.Author.Rules.{rules}
-use lib.ListN.{length}
-use mathlib.Core.Path.{◌∙◌, ◌≡◌, refl, sym}
-use native.Mathlib.Omega.{arith}
+use Rattle.std.proofs.Common.{◌≡◌, List, Option, None, Some, refl, rules, tests, ℕ}
+use Rattle.std.proofs.lemmas.Iterator.Consumers.{nth_from_yields_List}
+use Rattle.std.proofs.lemmas.Iterator.Splits.{YieldsList-from_slice_split}
+use Rattle.std.proofs.lemmas.Option.{unwrap_or-slice_get}
+use Rattle.std.specs.Option.{option_map, unwrap_or}
+use denote.Ref.{Bor}
+use lib.Dec.{eqb}
 use Rattle.text.proofs.split.part.Goals as goal
 
-pub loop-i-init : goal.loop-i-init
-loop-i-init c = (search rules, search rules, refl)
-
-pub overflow_add-at : goal.overflow_add-at
-overflow_add-at c =
-    let a = c.args in
-    let l = c.loop-i in
-    let ends : l.at + length c.until-passed.result.now < length a.s.now =
-    rw c.until-passed.ensures (part_ends a.stop a.s.now l.at l.i l.invariant.2 (omega arith)) in
-    omega arith
-
-pub overflow_add-at-in-loop-i : goal.overflow_add-at-in-loop-i
-overflow_add-at-in-loop-i c =
-    let a = c.args in
-    let l = c.loop-i in
-    let ends : l.at + length c.until-passed.result.now < length a.s.now =
-    rw c.until-passed.ensures (part_ends a.stop a.s.now l.at l.i l.invariant.2 (omega arith)) in
-    omega arith
-
-pub loop-i-preserved : goal.loop-i-preserved
-loop-i-preserved c =
-    let a = c.args in
-    let l = c.loop-i in
-    let ends : l.at + length c.until-passed.result.now < length a.s.now =
-    rw c.until-passed.ensures (part_ends a.stop a.s.now l.at l.i l.invariant.2 (omega arith)) in
-    (search rules, omega arith, rw c.until-passed.ensures (part_next a.stop a.s.now l.at l.i l.invariant.2 (omega arith)))
+-- A slice read or an empty one, as its bytes.
+read_now : (o : Option (Bor (List ℕ))) (d : Bor (List ℕ)) → (unwrap_or o d).now ≡ unwrap_or (option_map (λ x. x.now) o) d.now
+read_now None d = refl
+read_now (Some x) d = refl
 
 pub returns : goal.returns
 returns c =
-    let a = c.args in
-    let l = c.loop-i in
-    let e : l.i ≡ a.k = omega arith in
-    c.until.ensures ∙ sym (rw e at (part_here a.stop a.s.now l.at l.i l.invariant.2))
+    let parts = nth_from_yields_List c.nth.result _ c.args.k c.nth.ensures.ran
+    (YieldsList-from_slice_split _ (λ b. eqb b c.args.stop) c.args.s.now c.split.ensures.rest c.split.ensures.done c.split.ensures.closure (λ x b q. search (rules, tests))) in
+    rw (c.unwrap_or.ensures, read_now, parts, unwrap_or-slice_get) refl

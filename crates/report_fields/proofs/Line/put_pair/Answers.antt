@@ -1,0 +1,5 @@
+use Rattle.report_fields.proofs.Adding.{added_next}
+use Rattle.report_fields.proofs.Line.put_pair.Goals as goal
+
+pub returns : goal.returns
+returns c = added_next c.requires c.put_number.ensures c.put_number-2.ensures

@@ -1,7 +1,0 @@
--- Nothing has to hold from turn to turn.
--- The measure is how many words are left.
-use Rattle.std.proofs.Common.{length, ◌-◌}
-use Rattle.run_compare.proofs.are_words.Given as goal
-
-abbrev pub decreases-loop-i : goal.decreases-loop-i
-decreases-loop-i l = length l.words - l.i

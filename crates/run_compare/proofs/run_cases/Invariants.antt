@@ -1,7 +1,0 @@
--- Nothing has to hold from turn to turn.
--- The measure is how many cases are left.
-use Rattle.std.proofs.Common.{◌-◌}
-use Rattle.run_compare.proofs.run_cases.Given as goal
-
-abbrev pub decreases-loop-k : goal.decreases-loop-k
-decreases-loop-k g l = l.count - l.k
