@@ -1,5 +1,5 @@
 // A circuit as it stands in a drawing file: gates upon inputs, outputs, and a constraint or none.
-ghost use Rattle.std.specs.Prelude.{◌<◌};
+ghost use Rattle.std.specs.Prelude.{◌%◌, ◌*◌, ◌+◌, ◌-◌, ◌/◌, ◌<◌, IsTrue, ◌↔◌, ◌≡◌};
 
 use crate::random::Random;
 use std::alloc::{AllocError, Global};
@@ -56,16 +56,26 @@ impl Reference {
         Reference(vertex << 1)
     }
 
-    pub fn vertex(self) -> usize {
+    pub fn vertex(self) -> usize
+        ensures { result ≡ self.0 / 2 }
+    {
         self.0 / 2
     }
 
-    pub fn is_inverted(self) -> bool {
+    pub fn is_inverted(self) -> bool
+        ensures { IsTrue result ↔ self.0 % 2 ≡ 1 }
+    {
         self.0 % 2 == 1
     }
 
-    pub fn inverted(self) -> Reference {
-        Reference(self.0 ^ 1)
+    pub fn inverted(self) -> Reference
+        ensures { result.0 ≡ self.0 + 1 - 2 * (self.0 % 2) }
+    {
+        if self.is_inverted() {
+            Reference(self.0 - 1)
+        } else {
+            Reference(self.0 + 1)
+        }
     }
 
     // This reference, inverted where r is.
