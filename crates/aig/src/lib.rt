@@ -1,4 +1,4 @@
-// And-inverter graphs: literals, the folding of an AND, and what the look-up of vertices by their pairs answers.
+// And-inverter graphs: literals and the folding of an AND. The definitions also say what the look-up of vertices by their pairs answers.
 #![tactic(auto)]
 
 pub mod fold;

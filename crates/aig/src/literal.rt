@@ -15,7 +15,7 @@ impl Literal {
         requires { vertex < 2 ^ 31 }
         ensures { result ≡ lit (literal_of vertex inverted) }
     {
-        Literal(2 * vertex + inverted as u32)
+        Literal(2 * vertex + u32::from(inverted))
     }
 
     pub fn negated(self) -> Self

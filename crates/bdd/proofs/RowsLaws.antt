@@ -5,7 +5,7 @@ use lib.ListN.{get_or, length, length-set, set}
 use lib.Seq.{ext_get_or, get_or-set_other, get_or-set_same}
 use mathlib.Core.Bool.{Bool, false, true}
 use mathlib.Core.List.{List}
-use mathlib.Core.Logic.{◌⊎◌, inl, inr, ⊎_elim}
+use mathlib.Core.Logic.{◌⊎◌, inl, inr}
 use mathlib.Core.Path.{◌≡◌, ap, refl, subst, sym}
 use native.Mathlib.Decide.{ℕ_discrete}
 use native.Mathlib.Omega.{arith}
@@ -133,9 +133,6 @@ module _ (rows : List ℕ) (i : ℕ) where
   pub mark-cases : (mark_at rows i ≡ 0) ⊎ (mark_at rows i ≡ 1)
   unfolding mark_at
   mark-cases = elim (ℕ_discrete (word_at rows 0 i / MARK % 2) 0) [ yes e ↦ inl e | no d ↦ inr (omega arith) ]
-
-  pub mark-one : (mark_at rows i ≡ 0 → ⊥) → mark_at rows i ≡ 1
-  mark-one d = ⊎_elim (λ z. absurd (d z)) (λ o. o) mark-cases
 
 -- The constant's level and mark are 0, and its edges lead to itself.
 module _ (rows : List ℕ) where

@@ -7,6 +7,7 @@ ghost use Rattle.bdd.specs.code.Split.{Ends, Halved};
 use crate::rows::{child_of, level_of};
 
 // The reference c, inverted once more where r is inverted.
+// `Literal::onto` does so with 32 bits: a function of both widths would ask for the laws of `/`, `%` and `+` of its type.
 #[tactic(auto, unfolding(crate::specs::Diagram::edge))]
 pub fn edge_to(c: usize, r: usize) -> usize
     ensures { result ≡ edge c r }
@@ -52,7 +53,7 @@ pub fn ends(f: usize, g: usize) -> Option<usize>
 }
 
 // Two references f and g at the higher of their levels: the cofactors where that input is 0 and where it is 1.
-#[derive(Clone, Copy)]
+#[derive(Clone, Copy, Debug, PartialEq, Eq)]
 pub struct Halves {
     pub level: usize,
     pub f0: usize,

@@ -124,6 +124,7 @@ pub fn clear<'a>(rows: &'a mut [u32], limit: usize) -> RowStore<'a>
 }
 
 // The bucket of row i has the next row of i as its head.
+// It takes the slice: until `used` is lowered too, the rows are no store.
 fn unlink(rows: &mut [u32], limit: usize, i: usize)
     requires { (1 ≤ i) × StoreRoom rows.old limit i }
     ensures { rows.new ≡ unlinked rows.old limit i }

@@ -64,10 +64,9 @@ pub fn copy_out(table: &mut [u32], pairs: &[u32])
     ensures { table.new ≡ table_left table.old pairs.now }
 {
     let view = Table { words: &table[..] };
-    let made = view.made() as usize;
     let outputs = view.outputs() as usize;
     let first = 2 * (1 + view.inputs() as usize);
-    let from = HEADER + 2 * made;
+    let from = view.rows_end();
     let end = from + 2 * outputs;
     words::copy(&pairs[first..], table, HEADER);
     resolve_all(&mut table[from..end], pairs);

@@ -7,11 +7,11 @@ use Rattle.compare_model.specs.Compare.{row_words}
 use Rattle.sweep_model.proofs.Functions.{literal-perfect}
 use Rattle.sweep_model.specs.Fit.{Fit, Sound, vertex_count}
 use Rattle.sweep_model.specs.State.{Problem, function_of, literal_function}
-use Rattle.table.proofs.LayoutLaws.{map_at}
 use Rattle.table.specs.Accepted.{RowBelow}
 use Rattle.table.specs.Values.{Pair}
 use Rattle.truth.proofs.Values.{perfect-conj}
 use Rattle.truth.specs.Truth.{Perfect, Truth, conj, constantly}
+use Rattle.std.proofs.lemmas.List.{get_or-map}
 use lib.ListN.{get_or-append, get_or, length, length-append, length-map, take}
 use lib.Seq.{get_or-append-add, get_or-take, length-take-le}
 use mathlib.Core.Bool.{false}
@@ -97,7 +97,7 @@ module _ (p : Problem) (next : List Pair) (l r : ℕ) where
   -- and a further vertex has its row's.
   pub function_next : (i : ℕ) → i < length next → function_of (extended p next l r) (vertex_count p + i) ≡ pair_function p (get_or next i (0, 0))
   function_next i h =
-      get_or-append-add p.functions (map (pair_function p) next) i (constantly p.inputs false) ∙ map_at (pair_function p) next i _ (0, 0) h
+      get_or-append-add p.functions (map (pair_function p) next) i (constantly p.inputs false) ∙ get_or-map (pair_function p) next i (0, 0) _ h
 
   -- A vertex is one of its own or a further one.
   pub each-vertex : (P : ℕ → Type 0) → ((v : ℕ) → v < vertex_count p → P v) → ((i : ℕ) → i < length next → P (vertex_count p + i))

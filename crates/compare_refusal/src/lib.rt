@@ -25,8 +25,8 @@ fn is_outside(most: u64, n: u64) -> bool
 fn is_beyond(limits: Limits) -> bool
     ensures { result ≡ beyond? (limits_of limits) }
 {
-    is_outside(MAX_ROWS, limits.size as u64)
-        || is_outside(MAX_ROWS, limits.rows as u64)
+    is_outside(MAX_ROWS, u64::from(limits.size))
+        || is_outside(MAX_ROWS, u64::from(limits.rows))
         || is_outside(MAX_STEPS, limits.steps)
 }
 

@@ -19,7 +19,6 @@ use Rattle.table.specs.Table.{inputs_of, table_tests, vertices_of}
 use lib.ListN.{length, take}
 use lib.Seq.{take-take}
 use mathlib.Core.List.{List, ◌++◌}
-use mathlib.Core.Logic.{◌≢◌}
 use mathlib.Core.Path.{◌∙◌, ◌≡◌, ap, ap₂, sym}
 use native.Mathlib.Omega.{arith}
 

@@ -42,7 +42,7 @@ pub fn task_of(table: &Table<'_>, output: u32, limits: Limits) -> Task
     let left = table.output_literal(1, output as usize).0;
     let right = table.output_literal(2, output as usize).0;
     let inputs = table.inputs();
-    let vertices = 1 + inputs + table.made();
+    let vertices = table.vertices() as u32;
     Task {
         first: 1 + inputs,
         count: vertices + next_count(table),

@@ -5,7 +5,7 @@ ghost use Rattle.compare_model.specs.Lent.{SameSlices, lengths_of, room_of};
 ghost use Rattle.compare_model.specs.Passed.{Enough, LimitsWithin};
 ghost use Rattle.compare_model.specs.Said.{replied};
 ghost use Rattle.comparer.specs.Lent.{holding};
-ghost use Rattle.comparer.specs.code.Work.{Finishes, Swept};
+ghost use Rattle.comparer.specs.code.Work.{Finishes, Swept, put_setting};
 ghost use Rattle.sweep_state.specs.code.Ending.{verdict_of};
 ghost use Rattle.table.specs.Accepted.{Accepted};
 ghost use Rattle.table.specs.Table.{inputs_of, outputs_of, vertices_of};
@@ -49,15 +49,17 @@ pub fn run(table: &Table<'_>, output: u32, limits: Limits, lent: &mut Lent<'_>) 
 pub fn finish(table: &mut [u32], lent: &mut Lent<'_>, ended: Ended) -> Reply
     requires { Finishes table.old lent.old.pairs.now lent.old.rows.now ended (length lent.old.setting.now) }
     ensures table_after { table.new ≡ table_left table.old (take (2 * vertices_of table.old) lent.old.pairs.now) }
-    ensures marks_kept { lent.new.marks ≡ lent.old.marks }
-    ensures setting_after { lent.new.setting.now ≡ setting_left (verdict_of lent.old.rows.now (inputs_of table.old) ended.end) lent.old.setting.now }
+    ensures left { lent.new ≡ put_setting (setting_left (verdict_of lent.old.rows.now (inputs_of table.old) ended.end) lent.old.setting.now) lent.old }
     ensures same { SameSlices lent.old lent.new }
     ensures result_value { replied result ≡ said_by (verdict_of lent.old.rows.now (inputs_of table.old) ended.end) ended.used ended.steps ended.added }
 {
     let view = Table { words: &table[..] };
     let inputs = view.inputs() as usize;
     let words = 2 * view.vertices();
-    copy_out(table, &lent.pairs[..words]);
+    // `&mut`, though pairs and rows are only read. Tried `&`: the prover then does not know what `pairs` holds, and the borrow checker refuses a shared
+    // loan of `rows` beside that of `setting`.
+    let pairs = &mut lent.pairs[..words];
+    copy_out(table, &pairs[..]);
     let rows = &mut lent.rows[..];
     write_setting(ended.end, &rows[..], inputs, lent.setting);
     reply_of(ended)

@@ -8,7 +8,7 @@ use Rattle.load_model.proofs.Cards.{loading}
 use Rattle.load_model.specs.Build.{ask_and, ask_gate, ask_gates, build_file, build_pair, empty_build, folded_or_not, found_or_made, literals_from}
 use Rattle.load_model.specs.Cards.{and_file, named_and, or_file, turned_and}
 use Rattle.load_model.specs.Load.{counts_differ?, load_result, max_table, read_result, read_second, short_slice?, table_after, table_of, table_words, tally_of}
-use Rattle.netlist_model.specs.Check.{below?, check_file, check_from, constraints_in, due?, due_after, finish, formed?, gates_in, header?, known?, limited?, more?, names_in, outputs_in, read_by, read_netlist, twice?}
+use Rattle.netlist_model.specs.Check.{check_file, check_from, constraints_in, due_after, finish, formed?, gates_in, header?, known?, limited?, more?, names_in, outputs_in, read_by, read_netlist, twice?}
 use Rattle.netlist_model.specs.Meaning.{and_count}
 use Rattle.netlist_model.specs.Names.{first_lacked, name_count, place_of}
 use Rattle.netlist_model.specs.Pairing.{input_for, paired, reference_for}

@@ -15,7 +15,7 @@ use Rattle.load_model.specs.Build.{ask_and, ask_gate, ask_gates, build_file, bui
 use Rattle.load_model.specs.Cards.{and_file, room}
 use Rattle.load_model.specs.Load.{accepted, counts_differ?, load_result, read_result, read_second, table_of, table_words, tally_of}
 use Rattle.load_model.specs.Load.{short_slice? as short_load?}
-use Rattle.netlist_model.specs.Check.{below?, check_file, check_from, constraints_in, due?, due_after, finish, formed?, gates_in, header?, known?, limited?, more?, names_in, outputs_in, read, read_by, read_netlist, twice?}
+use Rattle.netlist_model.specs.Check.{check_file, check_from, constraints_in, due_after, finish, formed?, gates_in, header?, known?, limited?, more?, names_in, outputs_in, read, read_by, read_netlist, twice?}
 use Rattle.netlist_model.specs.Meaning.{and_count, ands_from, file_ands, gate_ands, operation_function}
 use Rattle.netlist_model.specs.Names.{first_lacked, name_count, place_of}
 use Rattle.netlist_model.specs.Pairing.{input_for, paired, reference_for}

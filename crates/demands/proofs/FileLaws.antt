@@ -27,7 +27,7 @@ use Rattle.sweep_model.specs.Fit.{vertex_count}
 use Rattle.sweep_model.specs.State.{Limits, Problem, function_of, literal_function}
 use Rattle.table.proofs.AcceptedLaws.{row_words-below}
 use Rattle.table.proofs.FunctionLaws.{function_false, function_first, length_functions}
-use Rattle.table.proofs.LayoutLaws.{length_rows, map_at, row_at_lem}
+use Rattle.table.proofs.LayoutLaws.{length_rows, row_at_lem}
 use Rattle.table.specs.Accepted.{Accepted}
 use Rattle.table.specs.Table.{constraint_of, functions_of, graph_of, inputs_from, inputs_of, made_of, output_value, outputs, outputs_of, rows_of, vertices_of}
 use Rattle.table.specs.Values.{Pair}
@@ -40,6 +40,7 @@ use Rattle.truth.specs.Distinct.{among}
 use Rattle.truth.specs.Parts.{alike?, all_parts, parts, size, together}
 use Rattle.truth.specs.Steps.{steps}
 use Rattle.truth.specs.Truth.{Setting, Truth, conj, constantly, input, invert}
+use Rattle.std.proofs.lemmas.List.{get_or-map}
 use borrow.Author.Tests.{eq-eqb, ne_eqb}
 use lib.Dec.{eqb}
 use lib.ListN.{get_or-append, get_or, length, length-append, length-map}
@@ -263,7 +264,7 @@ module _ (d e : Netlist) (h : Loadable d e) (old : List ℕ) where
     further_function : (i : ℕ) (z : And) → i < length (next_rows loaded output) → function_of asked (vertices_of loaded + i) ≡ and_function (get_or further i z)
     further_function i z l =
         next_function loaded output limits i l
-        ∙ ap and_function (sym (map_at (operands loaded) (next_rows loaded output) i z (0, 0) l) ∙ ap (λ (xs : List And). get_or xs i z) next_ands_lem)
+        ∙ ap and_function (sym (get_or-map (operands loaded) (next_rows loaded output) i (0, 0) z l) ∙ ap (λ (xs : List And). get_or xs i z) next_ands_lem)
 
     -- A made vertex larger than a limit is such an AND of the comparison.
     pub too_large : (limit v : ℕ) → (problem_of (table_of d (paired d e) old) output limits).first ≤ v → v < vertex_count (problem_of (table_of d (paired d e) old) output limits)

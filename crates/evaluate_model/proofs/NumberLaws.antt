@@ -2,7 +2,6 @@
 use Rattle.std.proofs.lemmas.Grind.{common_steps}
 use Prim.Native.Nat.{◌*◌, ◌+◌, ◌-◌, ◌<◌, ◌≤◌, suc, zero, ℕ}
 use Rattle.aig.proofs.LiteralLaws.{vertex-below}
-use Rattle.aig.proofs.ValuesLaws.{value-good}
 use Rattle.aig.specs.Literal.{vertex_of}
 use Rattle.aig.specs.Values.{Algebra}
 use Rattle.evaluate_model.specs.Evaluate.{bit}
@@ -64,10 +63,6 @@ bits_ahead us vs rs qs e good v =
           (values-good numbers vs qs good v)
       | no h ↦ (let le : length us ≤ v = omega arith in rw (get_or-eq_default us 0 le) (omega arith))
     ]
-
--- A literal has a value 0 or 1.
-pub literal-bit : (vs : List ℕ) (r : ℕ) → Bits vs → number_literal vs r ≤ 1
-literal-bit vs r good = value-good numbers vs good r
 
 -- A literal's value is found from the vertices below a bound on it.
 pub literal-taken : (n : ℕ) (vs : List ℕ) (r : ℕ) → r < 2 * n → number_literal (take n vs) r ≡ number_literal vs r

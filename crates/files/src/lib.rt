@@ -10,7 +10,7 @@ use std::io::{ErrorKind, Read};
 use std::rt::Files;
 use std::str::from_utf8;
 
-// Reads the front of a file into `bytes` and gives back how many there are: none of a file that cannot be read.
+// Reads the front of a file into `bytes` and gives back how many there are: none of a file that cannot be read, which is empty by RULES 11.1.
 pub fn read_file(files: &impl Files, path: &[u8], bytes: &mut [u8]) -> usize
     ensures in_bounds { result ≤ length bytes.new }
     ensures front { result ≡ length (take result bytes.new) }

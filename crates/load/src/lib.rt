@@ -5,7 +5,6 @@ ghost use Rattle.load_model.specs.Load.{answer_of, load_result, table_loaded};
 ghost use Rattle.load_model.specs.Lent.{Kept, SameSlices, lists_in, room_beside};
 ghost use Rattle.std.specs.Prelude.{◌≡◌};
 
-use load_model::Accepted;
 pub use load_model::{
     Lengths, Loaded, MAX_TABLE, MAX_VERTICES, Refused, Tally, WORKING_ROOM, Working,
 };
@@ -25,16 +24,8 @@ pub fn load(
     ensures same { SameSlices working.old working.new }
 {
     let lengths = working.lengths(table);
-    let (one, two) = load_decision::decide(left, right, lengths)?;
-    let left = Accepted {
-        file: left,
-        summary: one,
-    };
-    let right = Accepted {
-        file: right,
-        summary: two,
-    };
+    let (left, right) = load_decision::decide(left, right, lengths)?;
     let tally = load_pair::load_pair(left, right, table, working);
-    let edition = one.edition;
+    let edition = left.summary.edition;
     Ok(Loaded { edition, tally })
 }

@@ -1,6 +1,6 @@
 -- What the checks of two files say of them.
 use Prim.Native.Nat.{◌≤◌, ℕ}
-use Rattle.load_decision.specs.code.Decision.{Checks, FoundIn, checked_as, checked_file, checked_of, rejected, summed}
+use Rattle.load_decision.specs.code.Decision.{Checks, checked_as, checked_file, rejected, summed}
 use Rattle.netlist_model.proofs.CheckLaws.{names-at_most, names-due}
 use Rattle.netlist_model.proofs.FrontLaws.{front-count}
 use Rattle.netlist_model.proofs.ReadLaws.{accepted-holds, holds-edition, holds-names, read-holds}
@@ -11,34 +11,16 @@ use Rattle.netlist_model.specs.Limits.{edition_of, number_of_edition}
 use Rattle.netlist_model.specs.Names.{first_lacked, lacked, name_count, place_in}
 use Rattle.netlist_model.specs.Records.{file_lines}
 use Rattle.netlist_model.specs.code.Accepted.{ReadAs, netlist_of, summary_with}
-use Rattle.netlist_model.specs.code.Passing.{NamesThere, StartsAt, front_names, gates_at}
-use Rattle.netlist_model.specs.declared.Rejected.{Rejected}
+use Rattle.netlist_model.specs.code.Passing.{NamesThere, front_names, gates_at}
 use Rattle.netlist_model.specs.declared.Role.TheVariants.{First, Second}
 use Rattle.netlist_model.specs.declared.Role.{Role}
 use Rattle.netlist_model.specs.declared.Summary.{Summary}
 use Rattle.table.specs.Limits.{max_inputs}
-use Rattle.std.specs.Prelude.{Bool, Err, IsErrAnd, MatchResult, None, Ok, Option, Result, Some, cond, false, true}
-use Rattle.std.proofs.lemmas.Result.{err_from_is_err_and}
-use Rattle.load_model.specs.declared.Refused.{Refused}
+use Rattle.std.specs.Prelude.{Bool, None, Option, Some, cond, false, true}
 use lib.Dec.{ltb}
 use mathlib.Core.List.{List}
 use mathlib.Core.Path.{◌∙◌, ◌≡◌, ap, ap₂, refl, subst, sym}
 use native.Mathlib.Omega.{arith}
-
--- The result of a check is its answer with the place at which the gate lines start.
-pub checked-is : (bytes : List ℕ) (r : Result Summary Rejected) {a : check.Answer} → answer_of r ≡ a → StartsAt bytes r → checked_of r ≡ checked_as bytes a
-checked-is bytes (Ok s) e at =
-    rw (edition_numbered s.edition) at (ap (λ (n : ℕ). summed (summary_with n (summary_counts s))) at ∙ ap (checked_as bytes) e)
-checked-is bytes (Err x) e at = ap (checked_as bytes) e
-
--- What the check of the file of a number comes to, its refusal being told with that number.
-pub found-in : (bytes : List ℕ) (number : ℕ) {a : check.Answer} {Q : Rejected → Refused → Type 0} (r : Result Summary Rejected) (x : Result Summary Refused)
-    → answer_of r ≡ a → StartsAt bytes r → MatchResult r (λ s. x ≡ Ok s) (λ e. IsErrAnd x (Q e))
-    → ((e : Rejected) (y : Refused) → Q e y → y ≡ record { refusal = e.refusal; file = number; line = e.line }) → FoundIn number x (checked_as bytes a)
-found-in bytes number (Ok s) x e at h told = rw h (sym (checked-is bytes (Ok s) e at))
-found-in bytes number (Err d) x e at h told =
-    let p = err_from_is_err_and x h in
-    rw (p.1, told d p.0 p.2) (refl, sym (checked-is bytes (Err d) e at))
 
 accepted-is : {s t : Summary} → summed s ≡ summed t → s ≡ t
 accepted-is e = cc

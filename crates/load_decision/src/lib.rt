@@ -4,16 +4,22 @@
 ghost use Rattle.load_model.specs.Lent.{room_with};
 ghost use Rattle.load_model.specs.Load.{short_slice?};
 ghost use Rattle.load_decision.specs.code.Decision.{Checks, FoundIn, checked_file, decided, decision, pair_decision};
-ghost use Rattle.std.specs.Prelude.{◌≡◌};
+ghost use Rattle.std.specs.Prelude.{IfOk, ◌≡◌};
 
 use load_model::{Accepted, Lengths, Refused};
 use netlist::check::check_file;
 use netlist::{Role, Summary};
 use refusal::Refusal;
 
-// A refusal, or the summaries of two files that are loaded. Two `Accepted` would need one more clause: that their files are these two.
-pub fn decide(left: &[u8], right: &[u8], lengths: Lengths) -> Result<(Summary, Summary), Refused>
-    ensures { decided result ≡ decision left.now right.now (room_with lengths) }
+// A refusal, or the two files as accepted, which are then loaded.
+#[tactic(auto, unfolding(crate::specs::code::Decision::decision, crate::specs::code::Decision::read_decision, crate::specs::code::Decision::second_decision, table::specs::Refusals::first_refusal))]
+pub fn decide<'a>(
+    left: &'a [u8],
+    right: &'a [u8],
+    lengths: Lengths,
+) -> Result<(Accepted<'a>, Accepted<'a>), Refused>
+    ensures decision { decided result ≡ decision left.now right.now (room_with lengths) }
+    ensures files { IfOk result (λ p. (p.0.file.now ≡ left.now) × (p.1.file.now ≡ right.now)) }
 {
     if netlist::MAX_BYTES < left.len() {
         return Err(refused(Refusal::FileTooLong, 1, 0));
@@ -52,20 +58,23 @@ fn check_in(file: &[u8], role: Role, number: u32) -> Result<Summary, Refused>
 }
 
 // By the counts and the names of two accepted files and the lengths of the lent slices.
-fn decide_pair(
-    left: Accepted<'_>,
-    right: Accepted<'_>,
+fn decide_pair<'a>(
+    left: Accepted<'a>,
+    right: Accepted<'a>,
     lengths: Lengths,
-) -> Result<(Summary, Summary), Refused>
+) -> Result<(Accepted<'a>, Accepted<'a>), Refused>
     requires { Checks left.file.now right.file.now left.summary right.summary }
-    ensures { decided result ≡ pair_decision left.entry.file.now right.entry.file.now left.entry.summary right.entry.summary (room_with lengths) }
+    ensures decision { decided result ≡ pair_decision left.entry.file.now right.entry.file.now left.entry.summary right.entry.summary (room_with lengths) }
+    ensures files { IfOk result (λ p. (p.0.file.now ≡ left.entry.file.now) × (p.1.file.now ≡ right.entry.file.now)) }
 {
     let one = left.summary;
     let two = right.summary;
     if one.inputs != two.inputs || one.outputs != two.outputs {
         return Err(refused(Refusal::CountsDiffer, 2, 1));
     }
-    if let Some(lacked) = netlist_names::first_lacked(left.file, right.file, two.names) {
+    let left_names = netlist_names::front_names(left.file, two.names);
+    let right_names = netlist_names::front_names(right.file, two.names);
+    if let Some(lacked) = netlist_names::first_lacked(left_names, right_names) {
         return Err(refused(Refusal::LackedName, 2, 2 + lacked));
     }
     if (table::MAX_ANDS as usize) < one.ands as usize + two.ands as usize {
@@ -77,7 +86,7 @@ fn decide_pair(
     if is_short(lengths) {
         return Err(refused(Refusal::ShortSlice, 0, 0));
     }
-    Ok((one, two))
+    Ok((left, right))
 }
 
 // Whether a working slice is too short.

@@ -65,12 +65,7 @@ gate-stored literals v b op p q {x} fits hp hq ep eq e er =
     rw (er, literal-front literals v p hp, literal-front literals v q hq, add-one v, take-suc-set literals v x.literal fits)
     (ap (with_gate (take v literals)) (rw (ep, eq) at e))
 
--- The reference of an output line names a vertex.
-pub output-due :
-    {file : List ℕ} {at n r : ℕ} → OutputLine file at n → record_of (up_to 10 (drop at file)) ≡ Some (Output r) → vertex_of r < n
-output-due {r = r} l e = let er : l.reference ≡ r = cc l.this in rw er at l.below
-
--- Its literal.
+-- The literal of an output line.
 pub output-stored :
     (literals : List ℕ) (r : ℕ) {x : Literal} {y : Option Record} → x ≡ lit (literal_for literals r) → y ≡ Some (Output r)
     → map (literal_for literals) (outputs_in (y ∷ [])) ≡ x.0 ∷ []
@@ -180,10 +175,6 @@ module _ {file : List ℕ} {all : List netlist.Gate} {os cs : List ℕ} {end : �
           room = omega (arith, n.room);
         }
 
-    -- It has an end byte.
-    pub gates-ended : at + length (up_to 10 (drop at file)) < length file
-    gates-ended = next-gate.line.ended
-
     -- Its gate is asked for.
     pub gates-next :
         {u : Traced} → u ≡ ask_gates t (gates_in (record_of (up_to 10 (drop at file)) ∷ []))
@@ -267,6 +258,14 @@ module _ {file : List ℕ} {n : ℕ} {f : ℕ → ℕ} {old : List ℕ} {from : 
           go [] e = refl
           go (r ∷ rs) e = absurd (omega (arith, w.counted, ap length e))
 
+  -- At the end of the file it is passed.
+  pub outputs-over : length file ≤ at → end ≤ k
+  outputs-over h = go w.rest w.counted w.records
+    where
+      go : (rs : List ℕ) → k + length rs ≡ end → file_records (drop at file) ≡ map output_record rs ++ map constraint_record cs → end ≤ k
+      go [] c r = omega arith
+      go (x ∷ rs) c r = absurd (omega (arith, (record-ahead file at r (output-formed x)).ended, h))
+
   module _ (more : k < end) where
     next-output : NextOutput file n f old from all cs end at k list
     next-output = go w.rest w.counted w.records w.below w.writing
@@ -291,10 +290,6 @@ module _ {file : List ℕ} {n : ℕ} {f : ℕ → ℕ} {old : List ℕ} {from : 
     outputs-due =
         let o = next-output in
         record { reference = o.reference; inside = w.inside; this = o.line.this; below = omega (arith, o.bound) }
-
-    -- It has an end byte.
-    pub outputs-ended : at + length (up_to 10 (drop at file)) < length file
-    outputs-ended = next-output.line.ended
 
     -- Its literal is written.
     pub outputs-next :

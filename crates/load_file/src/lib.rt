@@ -54,8 +54,8 @@ pub fn load_file(
     outputs[last] = constraint.0;
 }
 
-// A file and a place in it are two parameters, as for the functions of netlist_records on a line: the places come from a `Summary`, which holds no file.
-// Asks for the gates of `count` lines, the first of which starts at `start` and is that of a vertex, and gives back where they end.
+// Asks for the gates of `count` lines, the first of which starts at `start` and is that of a vertex, and gives back where they end: the place is carried
+// from line to line, since the caller goes on there. A file and a place in it are two parameters, as in `netlist_records::lines`.
 fn ask_gates(
     file: &[u8],
     start: usize,
@@ -90,10 +90,8 @@ fn write_outputs(
     requires room { from + count ≤ length outputs.old }
     ensures { outputs.new ≡ written outputs.old from (map (literal_for literals.now) (outputs_in (file_records (drop start file.now)))) }
 {
-    let mut at = start;
-    for k in from..from + count {
+    for (k, at) in (from..from + count).zip(lines::Starts { file, at: start }) {
         outputs[k] = output_literal(file, at, literals).0;
-        at = lines::line_end(file, at);
     }
 }
 

@@ -25,7 +25,8 @@ pub struct Counts {
     pub found: u32,
 }
 
-// How an AND that is asked for ends: it names the count that is raised, so that the other counts are written at one place.
+// How an AND that is asked for ends: it names the count that is raised. One equation (`counts_after`) says what becomes of all counts; three methods
+// in its place would have one each.
 #[derive(Clone, Copy, Debug, PartialEq, Eq)]
 pub enum Ended {
     Folded,
@@ -157,8 +158,8 @@ impl<'a> Builder<'a> {
 }
 
 // The graph of the constant and the inputs, in the slices that a builder then takes.
-// It gives back no builder, as bdd_unique::clear gives back a store: load_pair lends it fields of a struct that it has as `&mut`, and of those its
-// proof then has nothing that says what they hold after the builder.
+// Tried as a constructor that gives back a builder: load_pair lends it fields of a struct that it has as `&mut`, and its proof then has nothing that
+// says what these hold after the builder.
 pub fn start(pairs: &mut [u32], look: &mut [u32], inputs: u32) -> Counts
     requires { (inputs ≤ max_inputs) × (2 * max_vertices ≤ length pairs.old) × (2 * max_vertices ≤ length look.old) }
     ensures result { build_of pairs.new result ≡ empty_build inputs }
@@ -180,8 +181,6 @@ fn add_row(pairs: &mut [u32], look: &mut [u32], v: u32, p: u32, q: u32)
     ensures pairs { pairs.new ≡ with_row pairs.old v p q }
     ensures look { look.new ≡ entered look.old max_vertices v p q }
 {
-    let at = 2 * v as usize;
-    pairs[at] = p;
-    pairs[at + 1] = q;
+    words::set_words(pairs, v, p, q);
     aig_lookup::enter(look, MAX_VERTICES, v, p, q);
 }

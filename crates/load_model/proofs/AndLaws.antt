@@ -14,7 +14,6 @@ use Rattle.load_model.specs.code.Valued.{operands_of}
 use Rattle.netlist_model.specs.Meaning.{ands_from, file_ands, operation_function}
 use Rattle.netlist_model.specs.Netlist.{Netlist}
 use Rattle.table.proofs.FunctionLaws.{length_first_functions}
-use Rattle.table.proofs.LayoutLaws.{map_at}
 use Rattle.table.proofs.MeaningLaws.{row_value_lem}
 use Rattle.table.specs.Accepted.{Downward, RowBelow}
 use Rattle.table.specs.Table.{Graph, first_functions, functions_of}
@@ -26,6 +25,7 @@ use Rattle.truth.proofs.Values.{conj-symmetric}
 use Rattle.truth.specs.Distinct.{among}
 use Rattle.truth.specs.Parts.{alike?, all_parts, parts}
 use Rattle.truth.specs.Truth.{Truth, conj, constantly, invert, leaf}
+use Rattle.std.proofs.lemmas.List.{get_or-map}
 use lib.ListN.{get_or, length, length-map}
 use mathlib.Core.Bool.{false, true}
 use mathlib.Core.List.{List, [], ◌++◌, ◌∷◌, map}
@@ -45,7 +45,7 @@ row_function_lem g down i z h =
     let falsum : Truth = constantly g.inputs false in
     let below : RowBelow (2 * (length (first_functions g.inputs) + i)) (get_or g.rows i (0, 0)) = rw n (down i h) in
     rw (← n) (row_value_lem invert conj falsum (first_functions g.inputs) g.rows i h below)
-    ∙ ap and_of (sym (map_at (operands_of invert conj falsum (functions_of g)) g.rows i z (0, 0) h))
+    ∙ ap and_of (sym (get_or-map (operands_of invert conj falsum (functions_of g)) g.rows i (0, 0) z h))
 
 -- Each of some ANDs is among their functions.
 pub and_among : (xs : List (Truth × Truth)) (k : ℕ) (z : Truth × Truth) → k < length xs → among alike? (and_of (get_or xs k z)) (map and_of xs) ≡ true

@@ -77,7 +77,7 @@ pub struct Loaded {
 }
 
 // Why a load is refused, and in which file and line; 0 where it is about no file, or about no line.
-// Both are numbers as the rules print them, 0 too: an Option would be turned back by each caller. (RULES 11.6)
+// Both are numbers as the rules print them, 0 too: each caller would make an `Option` 0 again. (RULES 11.6)
 #[derive(Clone, Copy, Debug, PartialEq, Eq)]
 pub struct Refused {
     pub refusal: Refusal,

@@ -18,15 +18,10 @@ pub fn check_file(file: &[u8], role: Role) -> Result<Summary, Rejected>
 {
     let mut due = Due::First(role);
     for at in lines::line_starts(file) {
-        match step(file, at, due) {
-            Ok(next) => due = next,
-            Err(refusal) => {
-                return Err(Rejected {
-                    refusal,
-                    line: line_due(due),
-                });
-            }
-        }
+        due = step(file, at, due).map_err(|refusal| Rejected {
+            refusal,
+            line: line_due(due),
+        })?;
     }
     ended(file, due)
 }
@@ -43,7 +38,8 @@ fn line_due(due: Due) -> u32
     }
 }
 
-// The record of the line that starts at `at`, if it has its end byte and the layout of one.
+// The record of the line that starts at `at`, if it has its end byte and the layout of one. The line alone would not tell whether its end byte is there, so
+// the file and the place are passed on.
 #[tactic(auto, using(netlist_model::proofs::LineLaws::record_last, netlist_model::proofs::LineLaws::record_whole))]
 fn next_record(file: &[u8], at: usize) -> Option<Record>
     requires { at < length file.now }
@@ -156,7 +152,8 @@ fn constraints_due(role: Role) -> u32
     }
 }
 
-// The tests of a later line after that of its layout. `Counted` is no ghost field of `Body`: the definitions make a body of refused lines too.
+// The tests of a later line after that of its layout. `Counted` is no ghost field of `Body`, nor `Held` one of `Due`: the definitions make both of refused
+// lines too. `NamesThere` is a clause: `Names` holds one count, and that of a body rises with each line.
 fn later_step(file: &[u8], at: usize, body: Body, found: Record) -> Result<Due, Refusal>
     requires counted { Counted body }
     requires names_there { NamesThere file.now body.name }
@@ -226,7 +223,8 @@ fn is_below(body: Body, found: Record) -> bool
     }
 }
 
-// Whether the line is a name's and stands in an earlier line, of which there are `count`.
+// Whether the line is a name's and stands in an earlier line, of which there are `count`. The names in these are read again, since without a heap no list of
+// them is kept.
 fn is_repeated(file: &[u8], at: usize, count: u32, found: Record) -> bool
     requires names_there { NamesThere file.now count }
     requires at_in_bounds { at < length file.now }
@@ -236,7 +234,8 @@ fn is_repeated(file: &[u8], at: usize, count: u32, found: Record) -> bool
     let Record::Name = found else {
         return false;
     };
-    netlist_names::find_name(file, count, netlist_names::name_at(file, at)).is_some()
+    let name = netlist_names::name_at(file, at);
+    netlist_names::find_name(netlist_names::front_names(file, count), name).is_some()
 }
 
 // What is due after a line that passed its tests.
@@ -278,7 +277,8 @@ fn ands_of(op: Operation) -> u32
     }
 }
 
-// After the last line. `Summary` takes seven fields of `Body` one by one: `Body` has the counts read besides, and no `start`.
+// After the last line. `Summary` takes seven fields of `Body` one by one: they are no struct in both, since the definitions in specs/ and the callers
+// name these fields of a `Summary`.
 fn ended(file: &[u8], due: Due) -> Result<Summary, Rejected>
     requires held { Held due }
     requires start_inside { StartInside file.now due }

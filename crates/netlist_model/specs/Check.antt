@@ -4,7 +4,7 @@ use Rattle.netlist_model.specs.Limits.{by_name_edition, by_place_edition, editio
 use Rattle.netlist_model.specs.Names.{among?, name_count}
 use Rattle.netlist_model.specs.Netlist as netlist
 use Rattle.netlist_model.specs.Netlist.{Netlist}
-use Rattle.netlist_model.specs.Records.{Line, constraint_line, file_lines, gate_line, header_line, kind_of, malformed_line, name_line, output_line, records_in}
+use Rattle.netlist_model.specs.Records.{Line, file_lines, kind_of, name_line, records_in}
 use Rattle.netlist_model.specs.declared.Body.{Body}
 use Rattle.netlist_model.specs.declared.Due.TheVariants.{First, Later}
 use Rattle.netlist_model.specs.declared.Due.{Due}
@@ -30,20 +30,12 @@ ands_of Xor = 3
 -- "2. The line is not an N, I, G, O or C record of this layout or has no end byte.": whether it is one. (RULES 8.1)
 unfoldable pub formed? : Option Record → Bool
 formed? None = false
-formed? (Some (Header e i g o)) = true
-formed? (Some Name) = true
-formed? (Some (Gate op p q)) = true
-formed? (Some (Output r)) = true
-formed? (Some (Constraint r)) = true
+formed? (Some r) = true
 
 -- "5. The line is .. not of the kind due there": whether it is the header that is due in line 1. (RULES 8.1)
 unfoldable pub header? : Option Record → Bool
 header? (Some (Header e i g o)) = true
-header? (Some Name) = false
-header? (Some (Gate op p q)) = false
-header? (Some (Output r)) = false
-header? (Some (Constraint r)) = false
-header? None = false
+header? _ = false
 
 -- "or a second file of another edition": whether the edition is that of the first file. A first file may have either. (RULES 8.1)
 abbrev pub suits? : Role → ℕ → Bool
@@ -53,20 +45,12 @@ suits? (Second first) e = eqb e first
 -- "3 now means an edition other than 1 or 2, or a second file of another edition": whether it is neither. (RULES 8.1)
 unfoldable pub known? : Role → Option Record → Bool
 known? role (Some (Header e i g o)) = (eqb e by_place_edition || eqb e by_name_edition) && suits? role e
-known? role (Some Name) = false
-known? role (Some (Gate op p q)) = false
-known? role (Some (Output r)) = false
-known? role (Some (Constraint r)) = false
-known? role None = false
+known? role _ = false
 
 -- "4. A count in line 1 is beyond its limit.": whether none is. (RULES 8.1)
 unfoldable pub limited? : Option Record → Bool
 limited? (Some (Header e i g o)) = leb i max_inputs && leb g max_gates && leb 1 o && leb o max_outputs
-limited? (Some Name) = false
-limited? (Some (Gate op p q)) = false
-limited? (Some (Output r)) = false
-limited? (Some (Constraint r)) = false
-limited? None = false
+limited? _ = false
 
 -- "Within line 1 the order is 2, 5, 3, 4" (RULES 9.2)
 abbrev pub first_tests : Role → Option Record → List (Test ℕ)
@@ -101,11 +85,7 @@ below? b None = false
 -- "18 a name twice in a file": whether the name that a line gives stands in an earlier line. (RULES 8.1)
 unfoldable pub twice? : List (List ℕ) → Line → Bool
 twice? seen (name_line name) = among? name seen
-twice? seen (header_line e i g o) = false
-twice? seen (gate_line op p q) = false
-twice? seen (output_line r) = false
-twice? seen (constraint_line r) = false
-twice? seen malformed_line = false
+twice? seen _ = false
 
 -- "within others 2, 5, 6"; 18 "at its line and after 5". No line has both references and a name. (RULES 9.2)
 abbrev pub later_tests : List (List ℕ) → Body → Line → List (Test ℕ)
@@ -169,26 +149,17 @@ after_constraint r b = record b { constraint = b.constraint + 1; reference = r }
 -- What is due after a line that passed its tests.
 unfoldable pub due_after : Due → Option Record → Due
 due_after (First role) (Some (Header e i g o)) = Later (after_header role e i g o)
-due_after (First role) (Some Name) = First role
-due_after (First role) (Some (Gate op p q)) = First role
-due_after (First role) (Some (Output r)) = First role
-due_after (First role) (Some (Constraint r)) = First role
-due_after (First role) None = First role
+due_after (First role) _ = First role
 due_after (Later b) (Some Name) = Later (after_name b)
 due_after (Later b) (Some (Gate op p q)) = Later (after_gate op b)
 due_after (Later b) (Some (Output r)) = Later (after_output b)
 due_after (Later b) (Some (Constraint r)) = Later (after_constraint r b)
-due_after (Later b) (Some (Header e i g o)) = Later b
-due_after (Later b) None = Later b
+due_after (Later b) _ = Later b
 
 -- The names that a line gives: one, or none.
 abbrev pub name_given : Line → List (List ℕ)
 name_given (name_line name) = name ∷ []
-name_given (header_line e i g o) = []
-name_given (gate_line op p q) = []
-name_given (output_line r) = []
-name_given (constraint_line r) = []
-name_given malformed_line = []
+name_given _ = []
 
 -- The names of some lines, in order.
 unfoldable pub names_in : List Line → List (List ℕ)
@@ -265,31 +236,19 @@ check_file role bytes = check_from 1 [] (First role) (file_lines bytes)
 unfoldable pub gates_in : List (Option Record) → List netlist.Gate
 gates_in [] = []
 gates_in (Some (Gate op p q) ∷ rs) = record { op = op; p = p; q = q } ∷ gates_in rs
-gates_in (Some (Header e i g o) ∷ rs) = gates_in rs
-gates_in (Some Name ∷ rs) = gates_in rs
-gates_in (Some (Output r) ∷ rs) = gates_in rs
-gates_in (Some (Constraint r) ∷ rs) = gates_in rs
-gates_in (None ∷ rs) = gates_in rs
+gates_in (_ ∷ rs) = gates_in rs
 
 -- The outputs of some records, in order.
 unfoldable pub outputs_in : List (Option Record) → List ℕ
 outputs_in [] = []
 outputs_in (Some (Output r) ∷ rs) = r ∷ outputs_in rs
-outputs_in (Some (Header e i g o) ∷ rs) = outputs_in rs
-outputs_in (Some Name ∷ rs) = outputs_in rs
-outputs_in (Some (Gate op p q) ∷ rs) = outputs_in rs
-outputs_in (Some (Constraint r) ∷ rs) = outputs_in rs
-outputs_in (None ∷ rs) = outputs_in rs
+outputs_in (_ ∷ rs) = outputs_in rs
 
 -- The constraints of some records, in order.
 unfoldable pub constraints_in : List (Option Record) → List ℕ
 constraints_in [] = []
 constraints_in (Some (Constraint r) ∷ rs) = r ∷ constraints_in rs
-constraints_in (Some (Header e i g o) ∷ rs) = constraints_in rs
-constraints_in (Some Name ∷ rs) = constraints_in rs
-constraints_in (Some (Gate op p q) ∷ rs) = constraints_in rs
-constraints_in (Some (Output r) ∷ rs) = constraints_in rs
-constraints_in (None ∷ rs) = constraints_in rs
+constraints_in (_ ∷ rs) = constraints_in rs
 
 -- The netlist of some lines, given the edition and the inputs of line 1.
 abbrev pub netlist_in : Counts → List Line → Netlist

@@ -48,7 +48,8 @@ pub enum Record {
 }
 
 // The edition and the counts of line 1, how many names it makes due, how many C lines may come, the numbers of names, gates, outputs and C lines
-// read so far, the ANDs that these gates stand for, and the reference that a C line gave, 1 where none has.
+// read so far, the ANDs that these gates stand for, and the reference that a C line gave, 1 where none has. C lines, at most one, are counted beside
+// their reference and are no `Option`: `line_due` adds them to the other lines, and the table's word is 1 where no line gives it (RULES 1.13, 4.1).
 #[derive(Clone, Copy, Debug, PartialEq, Eq)]
 pub struct Body {
     pub edition: Edition,

@@ -7,7 +7,9 @@ use Rattle.netlist_model.specs.Names.{among?, first_lacked, found, lacked, place
 use Rattle.netlist_model.specs.Records.{Line, constraint_line, file_lines, gate_line, header_line, kind_of, line_of, malformed_line, name_line, output_line, record_of}
 use Rattle.netlist_model.specs.code.Passing.{NamesThere, front_names, place_after}
 use Rattle.netlist_model.specs.declared.Record.TheVariants.{Name}
+use Rattle.netlist_names.specs.code.Left.{names_left}
 use Rattle.netlist_names.specs.code.Walk.{leading_names, names_ahead, names_from}
+use Rattle.netlist_names.specs.declared.Names.{Names}
 use Rattle.std.specs.List.{position_or_len}
 use Rattle.std.specs.Prelude.{Bool, None, Some, cond, false, is_none, ltb, not, true}
 use Rattle.text.specs.Bytes.{same_bytes}
@@ -56,6 +58,12 @@ names_from_lem file at {count} f = rw (f.lines, names_in_lem f.names f.more) (ta
 pub names_none : (file : List ℕ) (at : ℕ) {count : ℕ} → count ≡ 0 → names_from file at count ≡ []
 unfolding names_from
 names_none file at h = rw h refl
+
+-- An iterator has as many left as it says.
+pub names_count : (s : Names) → length (names_left s) ≡ s.left
+unfolding names_ahead
+names_count s =
+    let f = leads_front (file_lines (drop s.at s.file.now)) s.left s.there in ap length (names_from_lem s.file.now s.at f) ∙ f.counted
 
 -- After line 1 they are the first names of the file.
 module _ {file : List ℕ} {count : ℕ} (t : NamesThere file count) where
@@ -213,10 +221,6 @@ module _ {P : ℕ → List (List ℕ) → Type 0} {file : List ℕ} {count at k 
   -- The record of that line.
   pub here_record : record_of (up_to 10 (drop at file)) ≡ Some Name
   here_record = sym (kind_of_lem (up_to 10 (drop at file))) ∙ ap kind_of n.this
-
-  -- The name that is read from it.
-  pub here-name : {x : List ℕ} → name_line x ≡ line_of (up_to 10 (drop at file)) → x ≡ n.name
-  here-name e = let both = e ∙ n.this in cc
 
   -- It is passed.
   pub walk_next : (Q : ℕ → List (List ℕ) → Type 0) → Q (k + 1) n.rest → Walk Q file count (at + length (up_to 10 (drop at file)) + 1) (k + 1)

@@ -12,7 +12,7 @@ ghost use Rattle.text.specs.Split.{up_to};
 use netlist_model::Record;
 use netlist_records::{lines, records};
 
-// The name in the I line that starts at `at`. A file and a place in it are no struct: `Summary::start` is such a place, and loading goes on there.
+// The name in the I line that starts at `at`. A file and a place in it are two parameters, as in `netlist_records::lines`.
 pub fn name_at(file: &[u8], at: usize) -> &[u8]
     requires at_in_bounds { at ≤ length file.now }
     requires file_value { record_of (up_to 10 (drop at file.now)) ≡ Some Record.Name }
@@ -21,8 +21,8 @@ pub fn name_at(file: &[u8], at: usize) -> &[u8]
     records::name_in(text::until(file, at, lines::LINE_END))
 }
 
-// The names in the I lines from a place on.
-#[derive(Drop)]
+// The names in the I lines from a place on. `find_name` and `first_lacked` take a copy.
+#[derive(Clone, Copy, Drop)]
 pub struct Names<'a> {
     pub file: &'a [u8],
     pub at: usize,
@@ -53,7 +53,8 @@ impl<'a> Iterator for Names<'a> {
 // The first `count` names of a file.
 pub fn front_names(file: &[u8], count: u32) -> Names<'_>
     requires { NamesThere file.now count }
-    ensures { names_from result.file.now result.at result.left ≡ front_names count file.now }
+    ensures names { names_from result.file.now result.at result.left ≡ front_names count file.now }
+    ensures left { result.left ≡ count }
 {
     Names {
         file,
@@ -62,33 +63,31 @@ pub fn front_names(file: &[u8], count: u32) -> Names<'_>
     }
 }
 
-// The place of a name among the first `count` names of a file, if it is there.
-pub fn find_name(file: &[u8], count: u32, name: &[u8]) -> Option<u32>
-    requires { NamesThere file.now count }
-    ensures { result ≡ found name.now (front_names count file.now) }
+// The place of a name among others, if it is there.
+pub fn find_name(mut names: Names<'_>, name: &[u8]) -> Option<u32>
+    ensures { result ≡ found name.now (names_from names.entry.file.now names.entry.at names.entry.left) }
 {
-    let place = front_names(file, count).position(|other| text::same(name, other))?;
+    let place = names.position(|other| text::same(name, other))?;
     Some(place as u32)
 }
 
-// The place of the first of the second file's first `count` names that the first file's lack, if there is one.
-pub fn first_lacked(left: &[u8], right: &[u8], count: u32) -> Option<u32>
-    requires names_there { NamesThere left.now count }
-    requires names_there_2 { NamesThere right.now count }
-    ensures { result ≡ lacked (front_names count left.now) (front_names count right.now) }
+// The place of the first name of `right` that `left` lacks, if there is one.
+pub fn first_lacked(left: Names<'_>, mut right: Names<'_>) -> Option<u32>
+    ensures { result ≡ lacked (names_from left.entry.file.now left.entry.at left.entry.left) (names_from right.entry.file.now right.entry.at right.entry.left) }
 {
-    let place = front_names(right, count).position(|name| find_name(left, count, name).is_none())?;
+    let place = right.position(|name| find_name(left, name).is_none())?;
     Some(place as u32)
 }
 
-// The place after the first `count` lines of a file.
+// The place after the first `count` lines of a file. It is carried from line to line: `Starts` gives only places where a line starts, and
+// the file may end here.
 pub fn place_after(file: &[u8], count: u32) -> usize
     requires { place_after file.now count ≤ length file.now }
     ensures { result ≡ place_after file.now count }
 {
     let mut at = 0;
     for _ in 0..count {
-        at = at + text::until(file, at, lines::LINE_END).len() + 1;
+        at = lines::line_end(file, at);
     }
     at
 }

@@ -8,8 +8,8 @@ use netlist_model::Record;
 
 pub const LINE_END: u8 = b'\n';
 
-// The record of the line that starts at `at`, if it has the layout of one. A file and a place in it are no struct: `netlist_model::Summary::start` is such
-// a place, and loading goes on there.
+// The record of the line that starts at `at`, if it has the layout of one. A file and a place in it are two parameters: the place comes from `Starts` or
+// from a `Summary`, and a struct of both would be made for one call.
 pub fn read_line(file: &[u8], at: usize) -> Option<Record>
     requires { at ≤ length file.now }
     ensures { result ≡ record_of (up_to 10 (drop at file.now)) }
@@ -39,7 +39,7 @@ impl<'a> Iterator for Starts<'a> {
         if self.file.len() <= at {
             return None;
         }
-        self.at = at + text::until(self.file, at, LINE_END).len() + 1;
+        self.at = line_end(self.file, at);
         Some(at)
     }
 }
@@ -52,9 +52,9 @@ pub fn line_starts(file: &[u8]) -> Starts<'_>
     Starts { file, at: 0 }
 }
 
-// The place after the end byte of the line that starts at `at`.
+// The place after the end byte of the line that starts at `at`: past the end of the file where the last line has no end byte.
 pub fn line_end(file: &[u8], at: usize) -> usize
-    requires { at + length (up_to 10 (drop at file.now)) < length file.now }
+    requires { at ≤ length file.now }
     ensures { result ≡ at + length (up_to 10 (drop at file.now)) + 1 }
 {
     at + text::until(file, at, LINE_END).len() + 1

@@ -4,7 +4,7 @@
 ghost use Rattle.refusal.specs.Number.{number_of};
 ghost use Rattle.std.specs.Prelude.{◌≡◌};
 
-// Why a call is turned back, in the order of the numbers. (RULES 8.1)
+// Why a call is refused, in the order of the numbers. (RULES 8.1)
 #[derive(Clone, Copy, Debug, PartialEq, Eq)]
 pub enum Refusal {
     FileTooLong,

@@ -2,8 +2,8 @@
 use Prim.Native.Nat.{ℕ}
 use Rattle.compare_model.specs.Said.{undecided_by}
 use Rattle.reply_line.specs.code.Cause.{cause_vertex, cause_word}
-use Rattle.reply_line.specs.Line.{line_for, room_for}
-use Rattle.report_format.specs.Report.{LINE_ROOM, reply_line}
+use Rattle.reply_line.specs.Line.{line_for}
+use Rattle.report_format.specs.Report.{reply_line}
 use Rattle.sweep_model.specs.declared.Cause.TheVariants.{Rows, Size, Steps}
 use Rattle.sweep_model.specs.declared.Cause.{Cause}
 use mathlib.Core.List.{List, []}
@@ -15,9 +15,3 @@ pub undecided_line : (edition output : ℕ) (x : Cause) (rows steps added : ℕ)
 undecided_line edition output Size rows steps added setting = refl
 undecided_line edition output (Rows v) rows steps added setting = refl
 undecided_line edition output (Steps v) rows steps added setting = refl
-
--- It needs no room for a setting.
-pub undecided-room : (x : Cause) (rows steps added : ℕ) (setting : List ℕ) → room_for (undecided_by x rows steps added) setting ≡ LINE_ROOM
-undecided-room Size rows steps added setting = refl
-undecided-room (Rows v) rows steps added setting = refl
-undecided-room (Steps v) rows steps added setting = refl

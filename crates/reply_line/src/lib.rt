@@ -12,7 +12,7 @@ use report_format::Word;
 use sweep_model::{Cause, Reply};
 
 // Puts the line of a reply on an output at the front of `out` and gives back its length. The edition is that of the pair of files, and the
-// setting that of a Different.
+// setting that of a Different. The edition is a number, as in `report`.
 pub fn write_line(
     out: &mut [u8],
     edition: u32,
@@ -40,7 +40,7 @@ pub fn write_line(
     )
 }
 
-// `Word` and `Cause` are of other crates, so that no `From` can be written here.
+// `Word` and `Cause` are of other crates, so that neither this nor `vertex_of` can be a `From` here.
 fn word_of(cause: Cause) -> Word
     ensures { result ≡ cause_word cause }
 {

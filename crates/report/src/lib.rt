@@ -1,4 +1,5 @@
-// The lines that the program prints, as bytes. Each call can only run out of room, and says so by a length of 0: no line has that length.
+// The lines that the program prints, as bytes. Each call can only run out of room, and says so by a length of 0, which no line has: most callers
+// add the length to a place, and would make an `Option` 0 there.
 #![tactic(auto)]
 
 ghost use Rattle.std.specs.Prelude.{◌+◌, length};
@@ -21,6 +22,7 @@ pub fn write_head(out: &mut [u8]) -> usize
 }
 
 // Puts the line of a reply at the front of `out` and gives back its length.
+// The parameters are the fields of the line, one by one; an enum for the edition would ask more of callers.
 // Where `out` has fewer than `LINE_ROOM` bytes and the setting's nothing is written, and the length is 0.
 pub fn write_reply(
     out: &mut [u8],
@@ -47,7 +49,7 @@ pub fn write_reply(
 }
 
 // Puts the line of a refused load at the front of `out` and gives back its length.
-// Numbers, as the line has them: `Refusal` here and an edition's enum above would ask more of callers.
+// Numbers, as the line has them: a `Refusal` would ask more of callers.
 // Where `out` has fewer than `LINE_ROOM` bytes nothing is written, and the length is 0.
 pub fn write_refused(out: &mut [u8], number: u32, file: u32, line: u32) -> usize
     ensures { Printed LINE_ROOM (refused_line number file line) out.old out.new result }

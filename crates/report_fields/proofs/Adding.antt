@@ -1,6 +1,6 @@
 -- Fields added to a line one after the other.
 use Prim.Native.Nat.{◌+◌, ◌≤◌, ℕ}
-use Rattle.report_fields.specs.Line.{Added, HasRoom}
+use Rattle.report_fields.specs.code.Line.{Added, HasRoom}
 use Rattle.report_fields.specs.declared.Line.{Line}
 use Rattle.report_format.proofs.StoredLaws.{stored_next}
 use Rattle.report_format.specs.Report.{StoredWithin, setting_field}

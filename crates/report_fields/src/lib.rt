@@ -16,7 +16,7 @@ pub struct Line<'a> {
 
 impl<'a> Line<'a> {
     ghost use Rattle.std.specs.Prelude.{◌+◌, length, [], ◌++◌, ◌∷◌};
-    ghost use Rattle.report_fields.specs.Line.{Added, HasRoom};
+    ghost use Rattle.report_fields.specs.code.Line.{Added, HasRoom};
     ghost use Rattle.report_format.specs.Report.{NUMBER_DIGITS, WORD_LETTERS, vertex_field, word_bytes};
     ghost use Rattle.text.specs.Decimal.{decimal};
 

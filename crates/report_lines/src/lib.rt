@@ -1,10 +1,11 @@
-// The lines of a loaded table.
+// The lines of a loaded table. The edition is a number, as in `report`.
+// `Ready` stays a clause: `compare` is lent the table and the slices apart.
 #![tactic(auto)]
 
 ghost use Rattle.std.specs.Prelude.{◌*◌, ◌≤◌, length};
 ghost use Rattle.compare_model.specs.Lent.{SameSlices};
 ghost use Rattle.comparer.specs.Lent.{holding};
-ghost use Rattle.report_fields.specs.Line.{Added, HasRoom};
+ghost use Rattle.report_fields.specs.code.Line.{Added, HasRoom};
 ghost use Rattle.report_format.specs.Report.{StoredWithin};
 ghost use Rattle.report_model.specs.Report.{reply_room, report_room};
 ghost use Rattle.report_output.specs.code.Slices.{LeftAfter, Ready, first_lines, table_lines};

@@ -8,7 +8,7 @@ use Rattle.report_format.specs.Report.{LINE_ROOM}
 use Rattle.report_model.specs.Report.{comparison_line, next, reply_room}
 use Rattle.refusal.specs.declared.Refusal.{Refusal}
 use Rattle.report_fields.proofs.Adding.{added_within}
-use Rattle.report_fields.specs.Line.{Added}
+use Rattle.report_fields.specs.code.Line.{Added}
 use Rattle.report_fields.specs.declared.Line.{Line}
 use Rattle.std.specs.Prelude.{Result}
 use Rattle.sweep_model.specs.declared.Reply.{Reply}
@@ -17,7 +17,7 @@ use Rattle.table.specs.Table.{inputs_of}
 use lib.ListN.{length, take}
 use lib.Seq.{length-take-le}
 use mathlib.Core.List.{List}
-use mathlib.Core.Path.{◌≡◌, ap, refl, subst}
+use mathlib.Core.Path.{◌≡◌, ap, subst}
 use native.Mathlib.Omega.{arith}
 
 module _ (g : Given) (answer : Result Reply Refusal) (table marks setting : List ℕ) (e : left (said_of answer) table marks setting ≡ compared g) where

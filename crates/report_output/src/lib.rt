@@ -1,10 +1,10 @@
-// A comparison of an output, and its line.
+// A comparison of an output, and its line. The edition is a number, as in `report`.
 #![tactic(auto)]
 
 ghost use Rattle.std.specs.Prelude.{length, take, ◌≡◌, ◌≤◌};
 ghost use Rattle.compare_model.specs.Lent.{SameSlices};
 ghost use Rattle.comparer.specs.Lent.{holding};
-ghost use Rattle.report_fields.specs.Line.{Added, HasRoom};
+ghost use Rattle.report_fields.specs.code.Line.{Added, HasRoom};
 ghost use Rattle.report_model.specs.Report.{comparison_line, reply_room};
 ghost use Rattle.report_output.specs.code.Slices.{LeftToNext, Ready, asked};
 

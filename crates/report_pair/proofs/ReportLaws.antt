@@ -2,7 +2,7 @@
 use Prim.Native.Nat.{◌+◌, ◌≤◌, ℕ}
 use Rattle.compare_model.specs.Compare.{CompareRoom, Given, over_front}
 use Rattle.comparer.specs.Lent.{Slices, Unchanged}
-use Rattle.load_model.specs.Lent.{Kept, Working}
+use Rattle.load_model.specs.Lent.{Kept, Working, working}
 use Rattle.load_model.specs.Load.{Answer, LoadRoom, accepted, load_result, refused, table_loaded}
 use Rattle.load_model.specs.declared.Tally.{Tally}
 use Rattle.report_format.specs.Report.{LINE_ROOM, Printed, StoredWithin, head_line, line_length, line_put, refused_line}
@@ -70,6 +70,11 @@ module _ (left right : List ℕ) (lent : Lent) (long : short? lent ≡ false) (l
 -- The four slices that load works in.
 abbrev load_working : Slices → Working
 load_working s = record { pairs = s.pairs; look = s.look; literals = s.diagrams; outputs = s.stages }
+
+-- Lists that equal the lists left are left so too.
+pub kept-as : (loaded : Answer) (w : Working) {p p' l l' d d' s s' : List ℕ} → p' ≡ p → l' ≡ l → d' ≡ d → s' ≡ s → Kept loaded w (working p l d s)
+    → Kept loaded w (working p' l' d' s')
+kept-as loaded w e f g h k = rw (e, f, g, h) k
 
 -- A refused load leaves the slices to work in.
 pub refused_unchanged : (loaded : Answer) {number file line : ℕ} → loaded ≡ refused number file line → {before after : Slices}

@@ -1,4 +1,4 @@
-// The program's call: two files, and the report on them as bytes.
+// The program's call: two files, and the report on them as bytes. A length of 0 and no `Option`: the definition, `report_of`, has a count.
 #![tactic(auto)]
 
 ghost use Rattle.std.specs.Prelude.{◌≡◌};
@@ -29,15 +29,13 @@ pub fn report_pair(
     if report_parts::is_short(out.len(), lent.lengths()) {
         return 0;
     }
-    match load_in(
-        left,
-        right,
-        table,
-        lent.pairs,
-        lent.look,
-        lent.diagrams,
-        lent.stages,
-    ) {
+    let mut working = Working {
+        pairs: lent.pairs,
+        look: lent.look,
+        literals: lent.diagrams,
+        outputs: lent.stages,
+    };
+    match load::load(left, right, table, &mut working) {
         Ok(loaded) => {
             let edition = u32::from(loaded.edition);
             report_lines::report_table(out, edition, table, lent)
@@ -47,28 +45,4 @@ pub fn report_pair(
             report::write_refused(out, number, refused.file, refused.line)
         }
     }
-}
-
-// Loads two files into the table. The slices come one by one: they are fields of the slices lent to comparisons, under other names, and the struct of a
-// load is made of them here.
-fn load_in(
-    left: &[u8],
-    right: &[u8],
-    table: &mut [u32],
-    pairs: &mut [u32],
-    look: &mut [u32],
-    literals: &mut [u32],
-    outputs: &mut [u32],
-) -> Result<Loaded, Refused>
-    ensures result { answer_of result ≡ load_result left.now right.now (room_in table.old pairs.old look.old literals.old outputs.old) }
-    ensures table { table.new ≡ table_loaded (answer_of result) left.now right.now table.old }
-    ensures kept { Kept (answer_of result) (working pairs.old look.old literals.old outputs.old) (working pairs.new look.new literals.new outputs.new) }
-{
-    let mut working = Working {
-        pairs,
-        look,
-        literals,
-        outputs,
-    };
-    load::load(left, right, table, &mut working)
 }

@@ -5,7 +5,7 @@ ghost use Rattle.std.specs.Prelude.{◌+◌, length, ◌≡◌};
 ghost use Rattle.compare_model.specs.Lent.{room_of};
 ghost use Rattle.compare_model.specs.Said.{said_of};
 ghost use Rattle.reply_line.specs.Line.{line_for};
-ghost use Rattle.report_fields.specs.Line.{Added, HasRoom};
+ghost use Rattle.report_fields.specs.code.Line.{Added, HasRoom};
 ghost use Rattle.report_format.specs.Report.{LINE_ROOM};
 ghost use Rattle.report_model.specs.Report.{short_room?};
 
@@ -24,7 +24,7 @@ pub fn is_short(out: usize, lengths: Lengths) -> bool
         || lengths.setting < table::MAX_INPUTS as usize
 }
 
-// Adds the line of a reply to the report.
+// Adds the line of a reply to the report. The edition is a number, as in `report`.
 pub fn put_line(
     report: &mut Line<'_>,
     edition: u32,

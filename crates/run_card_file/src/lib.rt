@@ -1,24 +1,15 @@
-// A file of cards: `%` between the cards, `|` between the fields of a card, `,` between the numbers of a field.
+// A file of cards: `%` between the cards, `|` between the fields of a card, `,` between the numbers of a field. A card may leave out its last
+// fields, and a field its last numbers: a field left out is empty, a number left out is 0.
 #![tactic(auto)]
 
 ghost use Rattle.std.specs.Prelude.{◌*◌, ◌+◌, ◌-◌, min, length, ◌≡◌};
 ghost use Rattle.run_card_file.specs.CardFile.{HIGHEST, part_of, value_of};
 ghost use Rattle.text.specs.Split.{split_at};
 
-pub fn card_count(file: &[u8]) -> usize
-    ensures { result ≡ length (split_at 37 file.now) }
-{
-    text::part_count(file, b'%')
-}
+// The byte between two cards.
+pub const CARD_STOP: u8 = b'%';
 
-// Card `k` of a file, or nothing where there are fewer.
-pub fn card(file: &[u8], k: usize) -> &[u8]
-    ensures { result.now ≡ part_of 37 file.now k }
-{
-    text::part(file, k, b'%')
-}
-
-// Field `k` of a card, or nothing where there are fewer.
+// Field `k` of a card; one that is left out is empty.
 pub fn field(card: &[u8], k: usize) -> &[u8]
     ensures { result.now ≡ part_of 124 card.now k }
 {
@@ -31,7 +22,7 @@ pub fn number_count(field: &[u8]) -> usize
     text::part_count(field, b',')
 }
 
-// Number `k` of a field, or 0 where there are fewer.
+// Number `k` of a field; one that is left out is 0.
 pub fn number_at(field: &[u8], k: usize) -> u32
     ensures { result ≡ value_of (part_of 44 field.now k) }
 {

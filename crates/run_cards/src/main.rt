@@ -5,7 +5,7 @@
 use comparer::{Lent, Limits, Refusal, Reply};
 use load::Working;
 use netlist_model::Edition;
-use run_card_file::{field, number, number_at, number_count};
+use run_card_file::{CARD_STOP, field, number, number_at, number_count};
 use std::{fs, io};
 
 // The most vertices of a comparison: those of a table and the two next ones.
@@ -30,7 +30,7 @@ fn main(rt: HostRuntime) -> io::Result<()> {
     run_cards(&rt, &bytes)
 }
 
-// The slices that the calls work in are lent as arrays, as the program `compare` lends them.
+// The slices that the calls work in are arrays: their lengths never change.
 fn run_cards(rt: &impl Print, file: &[u8]) -> io::Result<()> {
     let mut table = [WORD_BEFORE; load::MAX_TABLE];
     let mut lent = Lent {
@@ -43,9 +43,9 @@ fn run_cards(rt: &impl Print, file: &[u8]) -> io::Result<()> {
         setting: &mut [SETTING_BEFORE; SETTING_ROOM],
     };
     let mut passed = 0usize;
-    for k in 0..run_card_file::card_count(file) {
-        if runs(rt, run_card_file::card(file, k), &mut table, &mut lent)? {
-            passed += 1;
+    for card in file.split(|b| *b == CARD_STOP) {
+        if runs(rt, card, &mut table, &mut lent)? {
+            passed = passed.saturating_add(1);
         }
     }
     println!(rt; "{passed} passed")
@@ -100,14 +100,10 @@ fn compares(
     let reply = comparer::compare(table, output, limits_of(card), lent);
     let is_reply = say(rt, is_line(field(card, 7), output, reply), b" reply")?;
     let is_added = say(rt, has_added(reply, number(field(card, 8))), b" added")?;
-    let is_setting = say(
-        rt,
-        starts_with(lent.setting, field(card, 9), 0),
-        b" setting",
-    )?;
+    let is_setting = say(rt, lent.setting.starts_with(field(card, 9)), b" setting")?;
     let is_marks = say(
         rt,
-        starts_with(lent.marks, field(card, 10), b'0'),
+        starts_with_digits(lent.marks, field(card, 10)),
         b" marks",
     )?;
     Ok(is_reply && is_added && is_setting && is_marks)
@@ -139,11 +135,11 @@ fn has_added(reply: Result<Reply, Refusal>, added: u32) -> bool {
     }
 }
 
-// Whether `s` starts with the bytes of `front`, each less `zero`.
-fn starts_with(s: &[u8], front: &[u8], zero: u8) -> bool {
-    let is_sum = |(byte, found): (&u8, &u8)| u32::from(*byte)
-        == u32::from(*found) + u32::from(zero);
-    front.len() <= s.len() && front.iter().zip(s).all(is_sum)
+// Whether `marks` starts with the numbers of these digits.
+fn starts_with_digits(marks: &[u8], digits: &[u8]) -> bool {
+    let is_digit = |(digit, mark): (&u8, &u8)| u32::from(*digit)
+        == u32::from(*mark) + u32::from(b'0');
+    digits.len() <= marks.len() && digits.iter().zip(marks).all(is_digit)
 }
 
 // Whether `words` starts with the numbers of `front`.

@@ -7,7 +7,7 @@
 ghost use Rattle.std.specs.Prelude.{◌≤◌};
 
 use comparer::{Cause, Lent, Limits, Refusal, Reply};
-use run_card_file::{field, number, number_at, number_count};
+use run_card_file::{CARD_STOP, field, number, number_at, number_count};
 use std::{fs, io};
 
 // The words of the largest table are 12,420, and the vertices of its comparison 6,211: one more of each.
@@ -33,8 +33,8 @@ const SETTING_BEFORE: u8 = b'-';
 
 fn main(rt: HostRuntime) -> io::Result<()> {
     let bytes = fs::read(&rt, "cases.txt")?;
-    for k in 0..run_card_file::card_count(&bytes) {
-        run_case(&rt, run_card_file::card(&bytes, k))?;
+    for case in bytes.split(|b| *b == CARD_STOP) {
+        run_case(&rt, case)?;
     }
     Ok(())
 }
@@ -84,7 +84,7 @@ fn limits_of(case: &[u8]) -> Limits {
     Limits {
         size: number(field(case, 3)),
         rows: number(field(case, 4)),
-        steps: number_at(steps, 0) as u64 + number_at(steps, 1) as u64,
+        steps: u64::from(number_at(steps, 0)) + u64::from(number_at(steps, 1)),
     }
 }
 

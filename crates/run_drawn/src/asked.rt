@@ -1,5 +1,5 @@
 // What is asked of a table: drawn outputs under drawn limits, every output under large limits from a drawn one on, drawn ones again, and a
-// comparison that is turned back.
+// comparison that is refused.
 ghost use Rattle.std.specs.Prelude.{◌<◌};
 
 use crate::random::Random;
@@ -30,7 +30,7 @@ pub fn draw_all(alloc: Global, outputs: u32, random: &mut Random) -> Result<Vec<
 {
     let mut all = Vec::new(alloc);
     add_drawn(&mut all, outputs, random)?;
-    let first = random.draw(3);
+    let first = random.draw(3) as u32;
     for turn in 0..outputs {
         all.push(Asked {
             output: first.wrapping_add(turn) % outputs,
@@ -48,7 +48,7 @@ fn add_drawn(all: &mut Vec<Asked>, outputs: u32, random: &mut Random) -> Result<
 {
     for _ in 0..TURNS {
         all.push(Asked {
-            output: random.draw(3) % outputs,
+            output: random.draw(3) as u32 % outputs,
             limits: draw_limits(random),
             refusal: None,
         })?;
@@ -59,9 +59,9 @@ fn add_drawn(all: &mut Vec<Asked>, outputs: u32, random: &mut Random) -> Result<
 // Limits that are large, or of which one or all are small.
 fn draw_limits(random: &mut Random) -> Limits {
     let kind = random.draw(5);
-    let size = 1 + random.draw(5);
-    let rows = 1 + random.draw(30);
-    let steps = u64::from(1 + random.draw(80));
+    let size = 1 + random.draw(5) as u32;
+    let rows = 1 + random.draw(30) as u32;
+    let steps = 1 + random.draw(80) as u64;
     match kind {
         0 => LARGE,
         1 => Limits { size, ..LARGE },
@@ -71,7 +71,7 @@ fn draw_limits(random: &mut Random) -> Limits {
     }
 }
 
-// A comparison that is turned back: an output that is too high, rows for which the lent slice is short, a size limit of 0, a row limit that is too
+// A comparison that is refused: an output that is too high, rows for which the lent slice is short, a size limit of 0, a row limit that is too
 // high, a step limit of 0, or one that is too high.
 fn draw_refused(outputs: u32, random: &mut Random) -> Asked {
     match random.draw(6) {

@@ -8,6 +8,7 @@ use std::fmt;
 // The most outputs.
 pub const OUTPUTS: usize = 3;
 
+// The judge's own operations and references: those of `netlist_model` and `aig` are part of what is judged.
 #[derive(Clone, Copy, PartialEq, Eq)]
 pub enum Operation {
     And,
@@ -148,8 +149,8 @@ impl Circuit {
 
     // A circuit of 0 to 10 inputs, 0 to 20 gates and 1 to 3 outputs.
     pub fn draw(alloc: Global, random: &mut Random) -> Result<Circuit, AllocError> {
-        let mut circuit = Circuit::new(alloc, random.draw(11));
-        let outputs = 1 + random.index(OUTPUTS);
+        let mut circuit = Circuit::new(alloc, random.draw(11) as u32);
+        let outputs = 1 + random.draw(OUTPUTS);
         for _ in 0..random.draw(21) {
             circuit.draw_gate(random)?;
         }
@@ -165,8 +166,8 @@ impl Circuit {
     fn draw_gate(&mut self, random: &mut Random) -> Result<(), AllocError> {
         let count = self.references();
         let operation = Operation::draw(random);
-        let left = Reference(random.late_index(count));
-        let right = Reference(random.late_index(count));
+        let left = Reference(random.draw_late(count));
+        let right = Reference(random.draw_late(count));
         self.add(operation, left, right)?;
         Ok(())
     }
@@ -174,11 +175,11 @@ impl Circuit {
     // One of the last references.
     fn draw_output(&self, random: &mut Random) -> Reference {
         let last = self.references() - 1;
-        Reference(last.checked_sub(random.index(6)).unwrap_or(0))
+        Reference(last.saturating_sub(random.draw(6)))
     }
 
     // A constraint: any reference, a late one more often.
     pub fn draw_constraint(&mut self, random: &mut Random) {
-        self.constraint = Some(Reference(random.late_index(self.references())));
+        self.constraint = Some(Reference(random.draw_late(self.references())));
     }
 }

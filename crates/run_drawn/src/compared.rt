@@ -1,8 +1,8 @@
 // The comparisons of a table, and each reply held against what the truth tables say.
 use crate::asked::{Asked, draw_all};
 use crate::circuit::OUTPUTS;
-use crate::memory::Memory;
-use crate::random::Random;
+use crate::memory::{Memory, SHORT};
+use crate::run::Run;
 use crate::settings;
 use crate::tally::{Tally, count};
 use comparer::{Cause, Counts, Refusal, Reply};
@@ -19,7 +19,7 @@ pub struct Facts {
 }
 
 // The first settings on which an output's two sides differ: among the allowed ones, and among all.
-#[derive(Clone, Copy)]
+#[derive(Clone, Copy, Default)]
 pub struct Differences {
     pub allowed: Option<usize>,
     pub all: Option<usize>,
@@ -31,29 +31,20 @@ impl Facts {
         self.outputs
             .get(output as usize)
             .copied()
-            .unwrap_or(Differences {
-                allowed: None,
-                all: None,
-            })
+            .unwrap_or_default()
     }
 }
 
 // Makes the comparisons, turn by turn, and judges each reply.
-pub fn compare_all(
-    alloc: Global,
-    memory: &mut Memory,
-    facts: &Facts,
-    random: &mut Random,
-    tally: &mut Tally,
-) -> Result<(), AllocError> {
+pub fn compare_all(run: &mut Run, facts: &Facts) -> Result<(), AllocError> {
     let outputs = facts.outputs.len().clamp(1, OUTPUTS) as u32;
-    let all = draw_all(alloc, outputs, random)?;
+    let all = draw_all(run.alloc, outputs, &mut run.random)?;
     for asked in all.iter() {
         let mut setting = [settings::BLANK; settings::BYTES];
-        let reply = memory.compare(asked.output, asked.limits, &mut setting);
-        let digits = written(alloc, reply, facts, asked.output)?;
-        tally.hold(settings::holds(&setting, &digits));
-        judge(reply, asked, facts, memory, tally);
+        let reply = run.memory.compare(asked.output, asked.limits, &mut setting);
+        let digits = written(run.alloc, reply, facts, asked.output)?;
+        run.tally.hold(settings::holds(&setting, &digits));
+        judge(reply, asked, facts, &run.memory, &mut run.tally);
     }
     Ok(())
 }
@@ -122,17 +113,17 @@ fn count_cause(cause: Cause, tally: &mut Tally) {
     }
 }
 
-// Size: some vertex is marked 2, and no rows are added. Rows and Steps: the vertex named is marked 3, and the limit is used up, after Rows by the
-// rows added too.
+// Size: some vertex is marked too large, and no rows are added. Rows and Steps: the vertex named is marked short, and the limit is used up, after
+// Rows by the rows added too.
 fn is_cause(cause: Cause, counts: Counts, asked: &Asked, facts: &Facts, memory: &Memory) -> bool {
     match cause {
         Cause::Size => counts.added == 0 && memory.has_dropped(facts.vertices),
         Cause::Rows(vertex) => {
             let used = u64::from(counts.rows) + u64::from(counts.added);
-            used == u64::from(asked.limits.rows) && memory.mark(vertex) == Some(3)
+            used == u64::from(asked.limits.rows) && memory.mark(vertex) == Some(SHORT)
         }
         Cause::Steps(vertex) => {
-            u64::from(counts.steps) == asked.limits.steps && memory.mark(vertex) == Some(3)
+            u64::from(counts.steps) == asked.limits.steps && memory.mark(vertex) == Some(SHORT)
         }
     }
 }

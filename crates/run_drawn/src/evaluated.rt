@@ -1,30 +1,22 @@
 // The evaluator, held against the truth tables.
-use crate::memory::Memory;
 use crate::pair::Side;
-use crate::random::Random;
+use crate::run::Run;
 use crate::settings;
 use crate::tables::SETTINGS;
-use crate::tally::Tally;
-use std::alloc::{AllocError, Global};
+use std::alloc::AllocError;
 
 // How many settings each output of a side is asked on.
 const ASKED: u32 = 4;
 
 // Holds the values of each output of a side on a few drawn settings.
-pub fn hold_side(
-    alloc: Global,
-    memory: &mut Memory,
-    number: u32,
-    side: &Side,
-    random: &mut Random,
-    tally: &mut Tally,
-) -> Result<(), AllocError> {
+pub fn hold_side(run: &mut Run, number: u32, side: &Side) -> Result<(), AllocError> {
     for (output, r) in (0..).zip(side.circuit.outputs.iter()) {
         for _ in 0..ASKED {
-            let setting = random.index(SETTINGS);
-            let digits = settings::digits(alloc, setting, side.circuit.inputs)?;
+            let setting = run.random.draw(SETTINGS);
+            let digits = settings::digits(run.alloc, setting, side.circuit.inputs)?;
             let value = side.truth.bits(*r).value(setting);
-            tally.hold(memory.evaluate(number, output, &digits) == Ok(value));
+            run.tally
+                .hold(run.memory.evaluate(number, output, &digits) == Ok(value));
         }
     }
     Ok(())

@@ -16,13 +16,12 @@ mod order;
 mod pair;
 mod random;
 mod rewrite;
+mod run;
 mod settings;
 mod tables;
 mod tally;
 
-use crate::memory::Memory;
-use crate::random::Random;
-use crate::tally::Tally;
+use crate::run::Run;
 use std::io;
 
 // How many pairs are drawn.
@@ -30,12 +29,9 @@ const PAIRS: u32 = 600;
 
 // Draws the pairs, one after the other, and prints what came of them.
 fn main(rt: HostRuntime) -> io::Result<()> {
-    let alloc = rt.alloc();
-    let mut memory = Memory::new(alloc)?;
-    let mut random = Random::new(7);
-    let mut tally = Tally::new();
+    let mut run = Run::new(rt.alloc())?;
     for number in 0..PAIRS {
-        pair::try_pair(alloc, &mut memory, number, &mut random, &mut tally)?;
+        pair::try_pair(&mut run, number)?;
     }
-    tally.print(&rt, PAIRS)
+    run.tally.print(&rt, PAIRS)
 }

@@ -9,6 +9,11 @@ const ROWS: usize = 32768;
 // The bytes of the marks and of the evaluator's values, one a vertex, the two next vertices of a comparison among them.
 const VERTICES: usize = load::MAX_VERTICES + compare_model::NEXT_VERTICES;
 
+// Two marks of RULES 7.4, written here as its table has them: those of `sweep_state` are part of what is judged.
+const TOO_LARGE: u8 = 2;
+
+pub const SHORT: u8 = 3;
+
 #[derive(Drop)]
 pub struct Memory {
     table: Vec<u32>,
@@ -76,8 +81,11 @@ impl Memory {
         self.marks.get(vertex as usize).copied()
     }
 
-    // Whether one of the first vertices is marked 2.
+    // Whether one of the first vertices is marked too large.
     pub fn has_dropped(&self, vertices: usize) -> bool {
-        self.marks.iter().take(vertices).any(|mark| *mark == 2)
+        self.marks
+            .iter()
+            .take(vertices)
+            .any(|mark| *mark == TOO_LARGE)
     }
 }

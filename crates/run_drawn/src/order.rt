@@ -9,27 +9,20 @@ pub struct Order(Vec<usize>);
 impl Order {
     // Every input at its own place.
     pub fn new(alloc: Global, inputs: u32) -> Result<Order, AllocError> {
-        let mut places = Vec::new(alloc);
-        for place in 0..=inputs as usize {
-            places.push(place)?;
-        }
-        Ok(Order(places))
+        Ok(Order((0..=inputs as usize).collect(alloc)?))
     }
 
     // Exchanges each input, from the last on, with a drawn one before it or with itself.
     pub fn shuffle(&mut self, random: &mut Random) {
         let places = self.0.as_mut_slice();
         for place in (2..places.len()).rev() {
-            places.swap(place, 1 + random.index(place));
+            places.swap(place, 1 + random.draw(place));
         }
     }
 
     // The inputs, place by place.
     pub fn inputs(&self) -> &[usize] {
-        match self.0.as_slice().split_first() {
-            Some((_, inputs)) => inputs,
-            None => &[],
-        }
+        self.0.get(1..).unwrap_or(&[])
     }
 
     fn input_at(&self, place: usize) -> usize {

@@ -5,10 +5,10 @@ use crate::circuit::{Circuit, OUTPUTS, Reference};
 use crate::compared::{Differences, Facts, compare_all};
 use crate::evaluated::hold_side;
 use crate::file;
-use crate::memory::Memory;
 use crate::order::Order;
 use crate::random::Random;
 use crate::rewrite::rewrite;
+use crate::run::Run;
 use crate::tables::{Bits, Truth, first_difference};
 use crate::tally::{Tally, count};
 use load::{Edition, Loaded, Refused};
@@ -29,38 +29,27 @@ impl Side {
 }
 
 // Draws two circuits, loads them, makes the comparisons, and evaluates before and after these. `number` is the pair's, counted from 0.
-pub fn try_pair(
-    alloc: Global,
-    memory: &mut Memory,
-    number: u32,
-    random: &mut Random,
-    tally: &mut Tally,
-) -> Result<(), AllocError> {
-    let one = draw_circuit(alloc, number, random, tally)?;
-    let two = rewrite(alloc, &one, random)?;
-    let made = load_pair(alloc, memory, &one, &two, number, tally)?;
-    let left = Side::new(alloc, one)?;
-    let right = Side::new(alloc, two)?;
-    let facts = facts_of(alloc, &left, &right, memory, made)?;
-    hold_side(alloc, memory, 1, &left, random, tally)?;
-    hold_side(alloc, memory, 2, &right, random, tally)?;
-    compare_all(alloc, memory, &facts, random, tally)?;
-    hold_side(alloc, memory, 1, &left, random, tally)?;
-    hold_side(alloc, memory, 2, &right, random, tally)
+pub fn try_pair(run: &mut Run, number: u32) -> Result<(), AllocError> {
+    let one = draw_circuit(run, number)?;
+    let two = rewrite(run.alloc, &one, &mut run.random)?;
+    let made = load_pair(run, &one, &two, number)?;
+    let left = Side::new(run.alloc, one)?;
+    let right = Side::new(run.alloc, two)?;
+    let facts = facts_of(run, &left, &right, made)?;
+    hold_side(run, 1, &left)?;
+    hold_side(run, 2, &right)?;
+    compare_all(run, &facts)?;
+    hold_side(run, 1, &left)?;
+    hold_side(run, 2, &right)
 }
 
 // A third of the pairs have a constraint, those with names too. It is drawn from the pair's number and not from the seed: the pairs and what is
 // asked of them are those without constraints.
-fn draw_circuit(
-    alloc: Global,
-    number: u32,
-    random: &mut Random,
-    tally: &mut Tally,
-) -> Result<Circuit, AllocError> {
-    let mut circuit = Circuit::draw(alloc, random)?;
+fn draw_circuit(run: &mut Run, number: u32) -> Result<Circuit, AllocError> {
+    let mut circuit = Circuit::draw(run.alloc, &mut run.random)?;
     if number / 3 % 3 == 1 {
         circuit.draw_constraint(&mut Random::new(number));
-        count(&mut tally.constrained);
+        count(&mut run.tally.constrained);
     }
     Ok(circuit)
 }
@@ -80,21 +69,14 @@ fn draw_order(order: &mut Order, number: u32, tally: &mut Tally) -> Edition {
 }
 
 // Writes both circuits as files, the second with its inputs in an order, and loads them; gives back how many vertices were made.
-fn load_pair(
-    alloc: Global,
-    memory: &mut Memory,
-    one: &Circuit,
-    two: &Circuit,
-    number: u32,
-    tally: &mut Tally,
-) -> Result<u32, AllocError> {
-    let same = Order::new(alloc, one.inputs)?;
-    let mut order = Order::new(alloc, two.inputs)?;
-    let edition = draw_order(&mut order, number, tally);
-    let left = file::write(alloc, one, &same, edition)?;
-    let right = file::write(alloc, two, &order, edition)?;
-    let loaded = memory.load(left.as_bytes(), right.as_bytes());
-    Ok(made_of(loaded, edition, tally))
+fn load_pair(run: &mut Run, one: &Circuit, two: &Circuit, number: u32) -> Result<u32, AllocError> {
+    let same = Order::new(run.alloc, one.inputs)?;
+    let mut order = Order::new(run.alloc, two.inputs)?;
+    let edition = draw_order(&mut order, number, &mut run.tally);
+    let left = file::write(run.alloc, one, &same, edition)?;
+    let right = file::write(run.alloc, two, &order, edition)?;
+    let loaded = run.memory.load(left.as_bytes(), right.as_bytes());
+    Ok(made_of(loaded, edition, &mut run.tally))
 }
 
 // How many vertices were made; a refusal is wrong, and so is another edition than the one written.
@@ -104,24 +86,18 @@ fn made_of(loaded: Result<Loaded, Refused>, written: Edition, tally: &mut Tally)
 }
 
 // What is known of the two circuits and of their table as loaded.
-fn facts_of(
-    alloc: Global,
-    left: &Side,
-    right: &Side,
-    memory: &Memory,
-    made: u32,
-) -> Result<Facts, AllocError> {
+fn facts_of(run: &Run, left: &Side, right: &Side, made: u32) -> Result<Facts, AllocError> {
     let made = made as usize;
     let outputs = left.circuit.outputs.len().min(OUTPUTS);
     // After the header, the rows and both files' outputs.
     let constraint_at = 3 + 2 * made + 2 * outputs;
-    let constraint = memory.word(constraint_at);
+    let constraint = run.memory.word(constraint_at);
     Ok(Facts {
         inputs: left.circuit.inputs,
         vertices: 1 + left.circuit.inputs as usize + made + next_vertices(constraint),
         constraint_at,
         constraint,
-        outputs: differences_of(alloc, left, right)?,
+        outputs: differences_of(run.alloc, left, right)?,
     })
 }
 
@@ -146,19 +122,19 @@ fn differences_of(
     let allowed = left
         .truth
         .bits(left.circuit.constraint.unwrap_or(Reference::TRUE));
-    let mut out = Vec::new(alloc);
-    for (one, two) in left
+    let pairs = left
         .circuit
         .outputs
         .iter()
-        .zip(right.circuit.outputs.iter())
-    {
-        let p = left.truth.bits(*one);
-        let q = right.truth.bits(*two);
-        out.push(Differences {
-            allowed: first_difference(p, q, allowed),
-            all: first_difference(p, q, all),
-        })?;
-    }
-    Ok(out)
+        .zip(right.circuit.outputs.iter());
+    pairs
+        .map(|(one, two)| {
+            let p = left.truth.bits(*one);
+            let q = right.truth.bits(*two);
+            Differences {
+                allowed: first_difference(p, q, allowed),
+                all: first_difference(p, q, all),
+            }
+        })
+        .collect(alloc)
 }

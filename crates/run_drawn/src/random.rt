@@ -15,15 +15,7 @@ impl Random {
     }
 
     // A number below n.
-    pub fn draw(&mut self, n: u32) -> u32
-        requires { 0 < n }
-        ensures { result < n }
-    {
-        self.next() % n
-    }
-
-    // An index below n. One generic function for both would need bounds with laws for a single `%`.
-    pub fn index(&mut self, n: usize) -> usize
+    pub fn draw(&mut self, n: usize) -> usize
         requires { 0 < n }
         ensures { result < n }
     {
@@ -31,12 +23,12 @@ impl Random {
     }
 
     // The larger of two: late ones come more often.
-    pub fn late_index(&mut self, n: usize) -> usize
+    pub fn draw_late(&mut self, n: usize) -> usize
         requires { 0 < n }
         ensures { result < n }
     {
-        let one = self.index(n);
-        let two = self.index(n);
+        let one = self.draw(n);
+        let two = self.draw(n);
         one.max(two)
     }
 }

@@ -8,10 +8,9 @@ pub fn rewrite(alloc: Global, from: &Circuit, random: &mut Random) -> Result<Cir
     let fault = draw_fault(from.gates.len(), random);
     let mut to = Circuit::new(alloc, from.inputs);
     // What became of each vertex: inputs and the constant keep their references.
-    let mut places = Vec::new(alloc);
-    for vertex in 0..=from.inputs as usize {
-        places.push(Reference::to(vertex))?;
-    }
+    let mut places: Vec<Reference> = (0..=from.inputs as usize)
+        .map(Reference::to)
+        .collect(alloc)?;
     for (at, gate) in from.gates.iter().enumerate() {
         let form = random.draw(6);
         let moved = moved(*gate, &places);
@@ -33,14 +32,14 @@ fn draw_fault(gates: usize, random: &mut Random) -> Option<usize> {
     if gates == 0 || random.draw(2) == 0 {
         return None;
     }
-    Some(random.late_index(gates))
+    Some(random.draw_late(gates))
 }
 
 fn moved(gate: Gate, places: &[Reference]) -> Gate {
     Gate {
-        operation: gate.operation,
         left: place_of(places, gate.left),
         right: place_of(places, gate.right),
+        ..gate
     }
 }
 
@@ -56,7 +55,7 @@ fn place_of(places: &[Reference], r: Reference) -> Reference {
 fn add_faulty(
     to: &mut Circuit,
     gate: Gate,
-    form: u32,
+    form: usize,
     random: &mut Random,
 ) -> Result<Reference, AllocError> {
     let Gate {
@@ -69,14 +68,14 @@ fn add_faulty(
         1 => to.add(operation.next().next(), left, right),
         2 | 3 => to.add(operation, left, right.inverted()),
         _ => {
-            let other = Reference(random.index(to.references()));
+            let other = Reference(random.draw(to.references()));
             to.add(operation, left, other)
         }
     }
 }
 
 // Gates of the same function as one gate; the form is a drawn number, and no kind that is kept.
-fn add_alike(to: &mut Circuit, gate: Gate, form: u32) -> Result<Reference, AllocError> {
+fn add_alike(to: &mut Circuit, gate: Gate, form: usize) -> Result<Reference, AllocError> {
     match form {
         0 => to.add(gate.operation, gate.left, gate.right),
         1 => to.add(gate.operation, gate.right, gate.left),

@@ -24,8 +24,7 @@ fn digit(setting: usize, after: u32) -> u8 {
 
 // Whether the bytes are these digits and blanks after them.
 pub fn holds(bytes: &[u8], digits: &[u8]) -> bool {
-    match bytes.strip_prefix(digits) {
-        Some(rest) => rest.iter().all(|byte| *byte == BLANK),
-        None => false,
-    }
+    bytes
+        .strip_prefix(digits)
+        .is_some_and(|rest| rest.iter().all(|byte| *byte == BLANK))
 }

@@ -35,22 +35,13 @@ impl Bits {
 
     // The value on a setting.
     pub fn value(&self, setting: usize) -> u8 {
-        let word = self.0[setting / 64 % WORDS];
-        if word >> (setting % 64) & 1 == 0 {
-            0
-        } else {
-            1
-        }
+        (self.0[setting / 64 % WORDS] >> (setting % 64) & 1) as u8
     }
 
     // The first setting on which the value is 1.
     fn first(&self) -> Option<usize> {
-        for (k, word) in self.0.iter().enumerate() {
-            if *word != 0 {
-                return Some(64 * k + word.trailing_zeros() as usize);
-            }
-        }
-        None
+        let k = self.0.iter().position(|word| *word != 0)?;
+        Some(64 * k + self.0[k].trailing_zeros() as usize)
     }
 }
 
@@ -73,33 +64,24 @@ impl Not for Bits {
 impl BitAnd for Bits {
     type Output = Bits;
 
-    fn bitand(mut self, other: Bits) -> Bits {
-        for (word, x) in self.0.iter_mut().zip(other.0.iter()) {
-            *word &= *x;
-        }
-        self
+    fn bitand(self, other: Bits) -> Bits {
+        Bits(array::from_fn(|k| self.0[k] & other.0[k]))
     }
 }
 
 impl BitOr for Bits {
     type Output = Bits;
 
-    fn bitor(mut self, other: Bits) -> Bits {
-        for (word, x) in self.0.iter_mut().zip(other.0.iter()) {
-            *word |= *x;
-        }
-        self
+    fn bitor(self, other: Bits) -> Bits {
+        Bits(array::from_fn(|k| self.0[k] | other.0[k]))
     }
 }
 
 impl BitXor for Bits {
     type Output = Bits;
 
-    fn bitxor(mut self, other: Bits) -> Bits {
-        for (word, x) in self.0.iter_mut().zip(other.0.iter()) {
-            *word ^= *x;
-        }
-        self
+    fn bitxor(self, other: Bits) -> Bits {
+        Bits(array::from_fn(|k| self.0[k] ^ other.0[k]))
     }
 }
 

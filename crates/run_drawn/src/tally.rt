@@ -2,7 +2,7 @@
 // many replies of each kind came, and how many answers were wrong.
 use std::io;
 
-#[derive(Drop)]
+#[derive(Default, Drop)]
 pub struct Tally {
     pub by_name: u32,
     pub cycles: u32,
@@ -18,22 +18,6 @@ pub struct Tally {
 }
 
 impl Tally {
-    pub fn new() -> Tally {
-        Tally {
-            by_name: 0,
-            cycles: 0,
-            constrained: 0,
-            equal_by_constraint: 0,
-            equal: 0,
-            different: 0,
-            size: 0,
-            rows: 0,
-            steps: 0,
-            refused: 0,
-            wrong: 0,
-        }
-    }
-
     // Counts what does not hold.
     pub fn hold(&mut self, holds: bool) {
         if !holds {

@@ -6,7 +6,7 @@
 
 ghost use Rattle.std.specs.Prelude.{◌≤◌};
 
-use run_card_file::{field, number, number_at, number_count};
+use run_card_file::{CARD_STOP, field, number, number_at, number_count};
 use std::{fs, io};
 
 // The vertices of the largest table: the constant, 64 inputs, 6,144 made.
@@ -41,9 +41,8 @@ fn fill_chain(table: &mut [u32; MOST_WORDS]) {
     table[0] = 64;
     table[1] = 6144;
     table[2] = 1;
-    for i in 0..6144usize {
-        table[3 + 2 * i] = 129 + 2 * i as u32;
-        table[4 + 2 * i] = 2;
+    for (i, row) in table[3..12291].chunks_exact_mut(2).enumerate() {
+        row.copy_from_slice(&[129 + 2 * i as u32, 2]);
     }
     table[12291] = 12416;
     table[12292] = 12417;
@@ -59,8 +58,8 @@ fn write_table(numbers: &[u8], table: &mut [u32; MOST_WORDS]) -> usize
         return MOST_WORDS;
     }
     let count = number_count(numbers).min(MOST_WORDS);
-    for i in 0..count {
-        table[i] = number_at(numbers, i);
+    for (i, word) in table.iter_mut().take(count).enumerate() {
+        *word = number_at(numbers, i);
     }
     count
 }
@@ -82,8 +81,8 @@ fn show_card(rt: &impl Print, card: &[u8]) -> io::Result<()> {
 
 fn main(rt: HostRuntime) -> io::Result<()> {
     let cards = fs::read(&rt, "calls.txt")?;
-    for k in 0..run_card_file::card_count(&cards) {
-        show_card(&rt, run_card_file::card(&cards, k))?;
+    for card in cards.split(|b| *b == CARD_STOP) {
+        show_card(&rt, card)?;
     }
     Ok(())
 }

@@ -1,6 +1,7 @@
 // The drawing files of a pair: those that stand in its card, files of newlines, and chains of gates.
 ghost use Rattle.std.specs.Prelude.{◌<◌, ◌≤◌};
 
+use load::Edition;
 use run_card_file::{number, number_at, number_count};
 use std::alloc::{AllocError, Global};
 
@@ -13,19 +14,17 @@ const MAX_OUTPUTS: u32 = 64;
 
 const INPUTS: u32 = 64;
 
-// A chain of ANDs over 64 inputs: how many names, by how much these are turned, how many gates, whether the vertex before a gate is inverted, and
+// A chain of ANDs over 64 inputs: the edition, by how much its names are turned, how many gates, whether the vertex before a gate is inverted, and
 // how many outputs. The names are the numbers from 0 to 63 or, where they are turned by 64 or more, from 1 to 64.
 #[derive(Clone, Copy)]
 struct Chain {
-    names: u32,
+    edition: Edition,
     turn: u32,
     gates: u32,
-    inverted: u32,
+    is_inverted: bool,
     outputs: u32,
-    ghost few_names: { names ≤ 64 },
     ghost small_turn: { turn < 128 },
     ghost few_gates: { gates ≤ 4096 },
-    ghost one_bit: { inverted ≤ 1 },
     ghost few_outputs: { outputs ≤ 64 },
 }
 
@@ -45,14 +44,14 @@ pub fn make(alloc: Global, text: &[u8], numbers: &[u8]) -> Result<Vec<u8>, Alloc
 // The chain of some numbers: gates, inverted, outputs and, in edition 2, the turn of the names.
 fn chain_of(numbers: &[u8]) -> Chain {
     Chain {
-        names: if number_count(numbers) == 4 {
-            INPUTS
+        edition: if number_count(numbers) == 4 {
+            Edition::ByName
         } else {
-            0
+            Edition::ByPlace
         },
         turn: number_at(numbers, 3) % 128,
         gates: number_at(numbers, 0).min(MAX_GATES),
-        inverted: number_at(numbers, 1) % 2,
+        is_inverted: number_at(numbers, 1) % 2 == 1,
         outputs: number_at(numbers, 2).min(MAX_OUTPUTS),
     }
 }
@@ -60,21 +59,23 @@ fn chain_of(numbers: &[u8]) -> Chain {
 impl Chain {
     // Its file.
     fn text(&self, alloc: Global) -> Result<String, AllocError> {
-        let edition = if self.names == 0 { 1 } else { 2 };
+        let edition = u32::from(self.edition);
         let mut file = String::new(alloc);
         writeln!(
             file,
             "N\t{edition}\t{INPUTS}\t{}\t{}",
             self.gates, self.outputs
         )?;
-        self.put_names(&mut file)?;
+        if self.edition == Edition::ByName {
+            self.put_names(&mut file)?;
+        }
         self.put_gates(&mut file)?;
         self.put_outputs(&mut file)?;
         Ok(file)
     }
 
     fn put_names(&self, file: &mut String) -> Result<(), AllocError> {
-        for input in 0..self.names {
+        for input in 0..INPUTS {
             let name = (input + self.turn) % INPUTS + self.turn / INPUTS;
             writeln!(file, "I\t{name}")?;
         }
@@ -85,7 +86,7 @@ impl Chain {
     fn put_gates(&self, file: &mut String) -> Result<(), AllocError> {
         for gate in 0..self.gates {
             let p = 2 * (1 + gate % INPUTS);
-            let q = 2 * (INPUTS + gate) + self.inverted;
+            let q = 2 * (INPUTS + gate) + u32::from(self.is_inverted);
             writeln!(file, "G\tand\t{p}\t{q}")?;
         }
         Ok(())

@@ -10,7 +10,7 @@ mod file;
 ghost use Rattle.std.specs.Prelude.{◌≤◌};
 
 use load::{Lengths, Loaded, Refused, Working};
-use run_card_file::{field, number, number_at};
+use run_card_file::{CARD_STOP, field, number, number_at};
 use std::alloc::Global;
 use std::{fs, io};
 
@@ -25,8 +25,8 @@ fn main(rt: HostRuntime) -> io::Result<()> {
 }
 
 fn show_cards(rt: &impl Print, alloc: Global, file: &[u8]) -> io::Result<()> {
-    for k in 0..run_card_file::card_count(file) {
-        show_card(rt, alloc, run_card_file::card(file, k))?;
+    for card in file.split(|b| *b == CARD_STOP) {
+        show_card(rt, alloc, card)?;
     }
     Ok(())
 }
@@ -74,11 +74,11 @@ fn show(rt: &impl Print, name: &[u8], loaded: Result<Loaded, Refused>) -> io::Re
     rt.write_all(name)?;
     match loaded {
         Ok(Loaded { edition, tally }) => {
-            print(rt, b": edition ", u32::from(edition))?;
-            print(rt, b" asked ", tally.asked)?;
-            print(rt, b" folded ", tally.folded)?;
-            print(rt, b" found ", tally.found)?;
-            print(rt, b" made ", tally.made)?;
+            print!(rt; ": edition {} asked {}", u32::from(edition), tally.asked)?;
+            println!(rt;
+                " folded {} found {} made {}",
+                tally.folded, tally.found, tally.made
+            )
         }
         Err(
             Refused {
@@ -86,25 +86,15 @@ fn show(rt: &impl Print, name: &[u8], loaded: Result<Loaded, Refused>) -> io::Re
                 file,
                 line,
             },
-        ) => {
-            print(rt, b": refused ", u32::from(refusal))?;
-            print(rt, b" file ", file)?;
-            print(rt, b" line ", line)?;
-        }
+        ) => println!(rt; ": refused {} file {file} line {line}", u32::from(refusal)),
     }
-    rt.write_all(b"\n")
-}
-
-fn print(rt: &impl Print, name: &[u8], number: u32) -> io::Result<()> {
-    rt.write_all(name)?;
-    rt.print(number)
 }
 
 // The first words, or all.
 fn print_words(rt: &impl Print, words: &[u32; TABLE], count: usize) -> io::Result<()> {
     rt.write_all(b"  table")?;
     for word in words.iter().take(count) {
-        print(rt, b" ", *word)?;
+        print!(rt; " {}", *word)?;
     }
     rt.write_all(b"\n")
 }

@@ -4,8 +4,8 @@
 
 ghost use Rattle.std.specs.Prelude.{◌≤◌, length};
 
-use netlist::{Rejected, Role, check};
-use run_card_file::{field, number};
+use netlist::{Rejected, Role, Summary, check};
+use run_card_file::{CARD_STOP, field, number};
 use std::{fs, io};
 
 // The bytes of the longest good file of edition 1 without a C line: line 1, 436 and 3,660 gate lines, 64 output lines.
@@ -17,36 +17,34 @@ const LONGEST: usize = 65134;
 fn show(rt: &impl Print, name: &[u8], file: &[u8], role: Role) -> io::Result<()> {
     rt.write_all(name)?;
     match check::check_file(file, role) {
-        Ok(summary) => {
-            print(rt, b": accepted, edition ", u32::from(summary.edition))?;
-            print(rt, b" inputs ", summary.inputs)?;
-            print(rt, b" names ", summary.names)?;
-            print(rt, b" gates ", summary.gates)?;
-            print(rt, b" outputs ", summary.outputs)?;
-            print(rt, b" ands ", summary.ands)?;
-            if summary.reference != 1 {
-                print(rt, b" reference ", summary.reference)?;
-            }
-            rt.write_all(b" start ")?;
-            rt.print(summary.start as u64)?;
-        }
-        Err(Rejected { refusal, line }) => {
-            print(rt, b": refused ", u32::from(refusal))?;
-            print(rt, b" line ", line)?;
-        }
+        Ok(summary) => show_summary(rt, summary),
+        Err(Rejected { refusal, line }) => println!(rt;
+            ": refused {} line {line}",
+            u32::from(refusal)
+        ),
     }
-    rt.write_all(b"\n")
 }
 
-fn print(rt: &impl Print, name: &[u8], number: u32) -> io::Result<()> {
-    rt.write_all(name)?;
-    rt.print(u64::from(number))
+fn show_summary(rt: &impl Print, summary: Summary) -> io::Result<()> {
+    let edition = u32::from(summary.edition);
+    print!(rt;
+        ": accepted, edition {edition} inputs {} names {}",
+        summary.inputs, summary.names
+    )?;
+    print!(rt;
+        " gates {} outputs {} ands {}",
+        summary.gates, summary.outputs, summary.ands
+    )?;
+    if summary.reference != 1 {
+        print!(rt; " reference {}", summary.reference)?;
+    }
+    println!(rt; " start {}", summary.start)
 }
 
 // The files of `files.txt`, a card each: a name, the file and, where it is a second file, the edition of the first.
 fn show_cards(rt: &impl Print, file: &[u8]) -> io::Result<()> {
-    for k in 0..run_card_file::card_count(file) {
-        show_card(rt, run_card_file::card(file, k))?;
+    for card in file.split(|b| *b == CARD_STOP) {
+        show_card(rt, card)?;
     }
     Ok(())
 }
@@ -68,7 +66,7 @@ fn role_of(edition: u32) -> Role {
     Role::Second(edition)
 }
 
-// Writes the longest good file of edition 1, and shows it without its C line and with it. The file is an array of just that length.
+// Writes the longest good file of edition 1, and shows it without its C line and with it. The file is an array, whose length the check knows.
 fn longest(rt: &impl Print) -> io::Result<()> {
     let mut file = [0u8; LONGEST];
     repeat(b"N\t1\t64\t4096\t64\n", &mut file, 0, 15);

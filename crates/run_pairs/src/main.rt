@@ -43,6 +43,7 @@ const SLICES: [Slice; 9] = [
     Slice::Setting,
 ];
 
+// The names are read as the files of a pair are, into an array, whose length the check knows.
 fn main(rt: HostRuntime) -> io::Result<()> {
     let mut names = [0; NAMES_ROOM];
     let end = files::read_file(&rt, b"names", &mut names);
@@ -55,13 +56,15 @@ fn main(rt: HostRuntime) -> io::Result<()> {
 
 // The report on each pair, in the order of the names. Each name ends with byte 10.
 fn report_all(rt: &(impl Files + Print + AllocGlobal), names: &[u8]) -> io::Result<()> {
-    for k in 1..text::part_count(names, b'\n') {
-        report_named(rt, text::part(names, k - 1, b'\n'))?;
+    for line in names.split_inclusive(|b| *b == b'\n') {
+        if let Some(name) = line.strip_suffix(b"\n") {
+            report_named(rt, name)?;
+        }
     }
     Ok(())
 }
 
-// The files and the slices lent are arrays, as in the program `compare`.
+// The files are read into arrays, whose lengths the check knows.
 fn report_named(rt: &(impl Files + Print + AllocGlobal), name: &[u8]) -> io::Result<()> {
     let mut left = [0; FILE_ROOM];
     let mut right = [0; FILE_ROOM];
@@ -98,6 +101,7 @@ fn report_and_or(rt: &impl Print, short: Slice) -> io::Result<()> {
 }
 
 // Prints the report on two files, with one of the lent slices one element short, or none. An empty report is said to be nothing.
+// The slices lent are arrays, whose lengths the check knows.
 fn print_report(
     rt: &impl Print,
     left: &[u8],

@@ -1,17 +1,17 @@
 // The diagrams of a circuit's vertices, made by products one after the other.
-// The store and the references are lent beside each other: of rows in a store that another struct holds, a caller's proof knew nothing at the end.
+// The store and the references are lent beside each other (tried as one struct: a `&mut` two structs deep is not followed).
 ghost use Rattle.std.specs.Prelude.{◌%◌, ◌/◌, ◌<◌, ◌≤◌, get_or, ◌≡◌};
 ghost use Rattle.bdd.specs.Diagram.{edge};
 ghost use Rattle.bdd.specs.code.Slice.{SameSlice};
 ghost use Rattle.run_product.specs.code.Held.{Held};
 
-use crate::circuit::{Operands, VERTICES};
+use crate::circuit::{Circuit, VERTICES};
 use bdd::references::edge_to;
 use bdd::store::RowStore;
 use bdd_unique::{give_back, make};
 use product::{Short, Steps, multiply};
 
-// The references of the vertices.
+// The references of the vertices: an array, whose length the check knows.
 pub type References = [usize; VERTICES];
 
 // How far a circuit came: the next vertex, and the limit that a product passed.
@@ -42,25 +42,24 @@ fn reference_of(references: &References, p: usize) -> usize
     edge_to(references[p / 2 % VERTICES], p)
 }
 
-// The product of two literals for vertex v. A shortfall gives its new rows back.
+// The product of the two literals of vertex v. A shortfall gives its new rows back.
 fn and(
     store: &mut RowStore<'_>,
     references: &mut References,
-    inputs: usize,
+    circuit: &Circuit,
     v: usize,
-    literals: (usize, usize),
     steps: &mut Steps,
 ) -> Result<(), Short>
-    requires held { Held store.old.rows.now references.old store.old.used inputs }
-    requires few { (inputs ≤ 10) × (v < 128) }
+    requires held { Held store.old.rows.now references.old store.old.used circuit.now.inputs }
+    requires few { v < 128 }
     ensures same { SameSlice store.old store.new }
-    ensures held { Held store.new.rows.now references.new store.new.used inputs }
+    ensures held { Held store.new.rows.now references.new store.new.used circuit.now.inputs }
 {
-    let (p, q) = literals;
+    let (p, q) = circuit.operands[v];
     let f = reference_of(references, p);
     let g = reference_of(references, q);
     let kept = store.used;
-    match multiply(store, f, g, inputs, steps) {
+    match multiply(store, f, g, circuit.inputs, steps) {
         Ok(r) => {
             references[v] = r;
             Ok(())
@@ -72,23 +71,20 @@ fn and(
     }
 }
 
-// The products of the vertices after the inputs up to n, until one is short.
+// The products of the vertices after the inputs, until one is short.
 pub fn ands(
     store: &mut RowStore<'_>,
     references: &mut References,
-    inputs: usize,
-    operands: &Operands,
-    n: usize,
+    circuit: &Circuit,
     steps: &mut Steps,
 ) -> Turn
-    requires held { Held store.old.rows.now references.old store.old.used inputs }
-    requires few { (inputs ≤ 10) × (n ≤ 128) }
+    requires held { Held store.old.rows.now references.old store.old.used circuit.now.inputs }
     ensures same { SameSlice store.old store.new }
-    ensures held { Held store.new.rows.now references.new store.new.used inputs }
+    ensures held { Held store.new.rows.now references.new store.new.used circuit.now.inputs }
     ensures next { (1 ≤ result.next) × (result.next ≤ 128) }
 {
-    for v in inputs + 1..n {
-        if let Err(short) = and(store, references, inputs, v, operands[v], steps) {
+    for v in circuit.inputs + 1..circuit.vertices {
+        if let Err(short) = and(store, references, circuit, v, steps) {
             return Turn {
                 next: v,
                 short: Some(short),
@@ -96,7 +92,7 @@ pub fn ands(
         }
     }
     Turn {
-        next: n.max(inputs + 1),
+        next: circuit.vertices.max(circuit.inputs + 1),
         short: None,
     }
 }

@@ -14,7 +14,7 @@ use bdd::store::RowStore;
 use circuit::VERTICES;
 use diagram::{ands, input_rows};
 use product::{Short, Steps};
-use run_card_file::{card_count, field, number};
+use run_card_file::{CARD_STOP, field, number};
 use std::{fs, io};
 
 // Room for 1,024 rows.
@@ -27,17 +27,6 @@ const MAX_STEPS: usize = 4294967295;
 const MAX_INPUTS: usize = 10;
 
 const MAX_SETTINGS: usize = 1024;
-
-fn print(rt: &impl Print, what: &[u8], x: usize) -> io::Result<()> {
-    rt.write_all(what)?;
-    rt.print(x)
-}
-
-// A number of its limit.
-fn print_of(rt: &impl Print, what: &[u8], x: usize, limit: usize) -> io::Result<()> {
-    print(rt, what, x)?;
-    print(rt, b" of ", limit)
-}
 
 // The limit passed, if any, and whether all values agree.
 fn verdict(rt: &impl Print, short: Option<Short>, wrong: usize) -> io::Result<()> {
@@ -90,45 +79,30 @@ fn run_card(rt: &impl Print, card: &[u8], rows: &mut [u32], limit: usize) -> io:
     };
     let inputs = number_in(card, 3, MAX_INPUTS);
     let settings = number_in(card, 4, MAX_SETTINGS);
-    let mut operands = [(0, 0); VERTICES];
-    let n = circuit::read(field(card, 6), &mut operands);
+    let circuit = circuit::read(inputs, field(card, 6));
     let mut store = store_under(rows, limit, next);
     let mut references = [0; VERTICES];
     input_rows(&mut store, &mut references, inputs);
-    let turn = ands(
-        &mut store,
-        &mut references,
-        inputs,
-        &operands,
-        n,
-        &mut steps,
-    );
-    let wrong = values::mismatches(&store, inputs, settings, &references, &operands, turn.next);
+    let turn = ands(&mut store, &mut references, &circuit, &mut steps);
+    let wrong = values::mismatches(&store, &references, &circuit, turn.next, settings);
     let size = bdd_size::size(&mut store, references[turn.next - 1]);
     let rows = store.used;
     bdd_unique::give_back(&mut store, 0);
     rt.write_all(field(card, 0))?;
-    print(rt, b": size ", size)?;
-    print_of(rt, b", rows ", rows, next)?;
-    print_of(rt, b", steps ", steps.taken, steps.most)?;
+    print!(rt; ": size {size}, rows {rows} of {next}")?;
+    print!(rt; ", steps {} of {}", steps.taken, steps.most)?;
     verdict(rt, turn.short, wrong)?;
     Ok(next)
 }
 
-// Runs the cards one after the other.
-fn run_cards(rt: &impl Print, file: &[u8], rows: &mut [u32]) -> io::Result<()>
-    requires { 4096 ≡ length rows.old }
-{
-    bdd_unique::clear(rows, MAX_ROWS);
-    let mut limit = MAX_ROWS;
-    for k in 0..card_count(file) {
-        limit = run_card(rt, run_card_file::card(file, k), rows, limit)?;
-    }
-    Ok(())
-}
-
+// Runs the cards one after the other. The rows are an array, whose length the check knows.
 fn main(rt: HostRuntime) -> io::Result<()> {
     let bytes = fs::read(&rt, "circuits.txt")?;
     let mut rows = [0; ROOM];
-    run_cards(&rt, &bytes, &mut rows)
+    bdd_unique::clear(&mut rows, MAX_ROWS);
+    let mut limit = MAX_ROWS;
+    for card in bytes.split(|b| *b == CARD_STOP) {
+        limit = run_card(&rt, card, &mut rows, limit)?;
+    }
+    Ok(())
 }

@@ -3,7 +3,7 @@ ghost use Rattle.std.specs.Prelude.{◌≤◌};
 ghost use Rattle.bdd.specs.code.Walks.{Walks};
 ghost use Rattle.run_product.specs.code.Held.{Held};
 
-use crate::circuit::{Operands, VERTICES};
+use crate::circuit::{Circuit, VERTICES};
 use crate::diagram::References;
 use bdd::references::cofactor_of;
 use bdd::store::RowStore;
@@ -24,21 +24,17 @@ fn set_inputs(values: &mut [bool; VERTICES], inputs: usize, setting: usize)
     }
 }
 
-// The values of the inputs, then of the ANDs up to n.
-fn simulate(
-    values: &mut [bool; VERTICES],
-    inputs: usize,
-    operands: &Operands,
-    n: usize,
-    setting: usize,
-)
-    requires { (inputs ≤ 10) × (n ≤ 128) }
+// The values of the inputs, then of the ANDs up to n, in an array, whose length the check knows.
+fn simulate(circuit: &Circuit, n: usize, setting: usize) -> [bool; VERTICES]
+    requires { n ≤ 128 }
 {
-    set_inputs(values, inputs, setting);
-    for v in inputs + 1..n {
-        let (p, q) = operands[v];
-        values[v] = literal(values, p) && literal(values, q);
+    let mut values = [false; VERTICES];
+    set_inputs(&mut values, circuit.inputs, setting);
+    for v in circuit.inputs + 1..n {
+        let (p, q) = circuit.operands[v];
+        values[v] = literal(&values, p) && literal(&values, q);
     }
+    values
 }
 
 // The value of a reference: each digit picks a cofactor.
@@ -67,32 +63,26 @@ fn differences(
     requires few { n ≤ 128 }
     ensures { result ≤ 128 }
 {
-    let mut wrong = 0;
-    for v in 0..n {
-        if value(store.rows, inputs, references[v], setting) != values[v] {
-            wrong += 1;
-        }
-    }
-    wrong
+    (0..n)
+        .filter(|v| value(store.rows, inputs, references[*v], setting) != values[*v])
+        .count()
 }
 
 // The same on all settings.
 pub fn mismatches(
     store: &RowStore<'_>,
-    inputs: usize,
-    settings: usize,
     references: &References,
-    operands: &Operands,
+    circuit: &Circuit,
     n: usize,
+    settings: usize,
 ) -> usize
-    requires held { Held store.now.rows.now references.now store.now.used inputs }
-    requires few { (inputs ≤ 10) × (settings ≤ 1024) × (n ≤ 128) }
+    requires held { Held store.now.rows.now references.now store.now.used circuit.now.inputs }
+    requires few { (settings ≤ 1024) × (n ≤ 128) }
 {
-    let mut values = [false; VERTICES];
-    let mut wrong = 0;
-    for setting in 0..settings {
-        simulate(&mut values, inputs, operands, n, setting);
-        wrong += differences(store, inputs, references, &values, n, setting);
-    }
-    wrong
+    (0..settings)
+        .map(|setting| {
+            let values = simulate(circuit, n, setting);
+            differences(store, circuit.inputs, references, &values, n, setting)
+        })
+        .sum()
 }

@@ -2,7 +2,8 @@
 use Prim.Native.Nat.{◌*◌, ◌+◌, ◌-◌, ◌<◌, ◌≤◌, ℕ}
 use Rattle.aig.specs.Lookup.{first_word, second_word}
 use Rattle.bdd.specs.code.Rows.{LIMIT}
-use Rattle.sweep.specs.code.Sweep.{Sweeps}
+use Rattle.sweep.specs.code.Sweep.{SweepAnswers}
+use Rattle.sweep_model.specs.Sweep.{sweep}
 use Rattle.run_sweep.specs.code.Asked.{Asked, VERTICES}
 use Rattle.sweep_model.specs.Fit.{Downward, Fit}
 use Rattle.sweep_model.specs.State.{Problem, function_of, literal_function}
@@ -120,6 +121,8 @@ module _ (t : Task) (pairs : List ℕ) (h : Asked t pairs) where
           marks-long = omega (arith, h.named.count);
         }
 
-    -- What the words are where it has ended.
-    pub closed : (after : Workspace) (r : Ended) → Sweeps t before after r → Closed t functions after r
-    closed after r sweeps = (sweeps functions has-functions).closed
+  -- What the words are where the sweep has ended.
+  pub closed :
+      {after : Workspace} {r : Ended} → ((f : List Truth) → HasFunctions t f pairs → SweepAnswers t f (sweep (posed t f) pairs) after r)
+      → Closed t functions after r
+  closed answers = (answers functions has-functions).closed

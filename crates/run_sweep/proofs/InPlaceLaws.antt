@@ -1,12 +1,11 @@
 -- Vertices in place, one after the other.
-use Prim.Native.Nat.{◌*◌, ◌+◌, ◌<◌, ◌≤◌, ℕ}
+use Prim.Native.Nat.{◌*◌, ◌<◌, ◌≤◌, ℕ}
 use Rattle.aig.specs.Lookup.{first_word, second_word}
 use Rattle.run_sweep.specs.code.Asked.{InPlace}
 use Rattle.sweep_model.specs.Fit.{Downward}
 use lib.ListN.{length}
 use mathlib.Core.List.{List}
-use mathlib.Core.Path.{◌≡◌, subst, sym}
-use native.Mathlib.Decide.{ℕ_discrete}
+use mathlib.Core.Path.{◌≡◌}
 use native.Mathlib.Omega.{arith}
 
 module _ (first : ℕ) (pairs : List ℕ) where
@@ -22,14 +21,6 @@ module _ (first : ℕ) (pairs : List ℕ) where
   -- All vertices below a number are in place.
   abbrev pub AllInPlace : ℕ → Type 0
   AllInPlace n = (v : ℕ) → v < n → InPlace first v pairs
-
-  -- One more.
-  pub all-next : (n : ℕ) → AllInPlace n → InPlace first n pairs → AllInPlace (n + 1)
-  all-next n all h v l =
-      elim (ℕ_discrete v n) [
-        | yes e ↦ subst (λ (u : ℕ). InPlace first u pairs) (sym e) h
-        | no e ↦ all v (omega (arith, e))
-      ]
 
   -- The words are those of a graph.
   pub all-downward : (count : ℕ) → 2 * count ≤ length pairs → first ≤ count → AllInPlace count → Downward first count pairs

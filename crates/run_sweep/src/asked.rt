@@ -1,6 +1,6 @@
 // What a card asks, and the test that the sweep can be asked it.
 ghost use Rattle.std.specs.Prelude.{◌*◌, ◌≤◌, length, true, ◌≡◌};
-ghost use Rattle.run_sweep.specs.code.Asked.{Asked, Between, Limited, Named, VERTICES, number_in, task_in};
+ghost use Rattle.run_sweep.specs.code.Asked.{Asked, Limited, Named, VERTICES, number_in, task_in};
 
 use crate::graph::{VERTICES, is_graph};
 use run_card_file::{field, number};
@@ -47,15 +47,9 @@ pub fn is_asked(task: Task, pairs: &[u32]) -> bool
 fn has_limits(task: Task) -> bool
     ensures { result ≡ true → Limited task }
 {
-    is_between(task.size, MAX_ROWS)
-        && is_between(task.rows, MAX_ROWS)
-        && is_between(task.steps, MAX_STEPS)
-}
-
-fn is_between(n: usize, most: usize) -> bool
-    ensures { result ≡ true → Between n most }
-{
-    1 <= n && n <= most
+    (1..=MAX_ROWS).contains(&task.size)
+        && (1..=MAX_ROWS).contains(&task.rows)
+        && (1..=MAX_STEPS).contains(&task.steps)
 }
 
 // Whether the constant and the inputs are the first vertices, and the literals looked at name vertices.

@@ -4,20 +4,17 @@ ghost use Rattle.run_sweep.specs.code.Asked.{InPlace, VERTICES};
 ghost use Rattle.sweep_model.specs.Fit.{Downward};
 
 use run_card_file::{number_at, number_count};
-use sweep_graph::words::{first_word, second_word};
+use words::{first_word, second_word};
 
 // The most vertices of a graph here.
 pub const VERTICES: usize = 64;
 
 // Writes the numbers of a field to the front of `words`; an empty field leaves them as they are.
 pub fn read_words(field: &[u8], words: &mut [u32]) {
-    if field.len() != 0 {
-        copy_numbers(field, words, number_count(field));
+    if field.is_empty() {
+        return;
     }
-}
-
-fn copy_numbers(field: &[u8], words: &mut [u32], count: usize) {
-    for (i, word) in words.iter_mut().take(count).enumerate() {
+    for (i, word) in words.iter_mut().take(number_count(field)).enumerate() {
         *word = number_at(field, i);
     }
 }
@@ -29,13 +26,7 @@ pub fn is_graph(pairs: &[u32], first: u32, count: u32) -> bool
     requires within { first ≤ count }
     ensures { result ≡ true → Downward first count pairs.now }
 {
-    for v in 0..count {
-        if is_in_place(pairs, first, v) {
-            continue;
-        }
-        return false;
-    }
-    true
+    (0..count).all(|v| is_in_place(pairs, first, v))
 }
 
 // Whether a first vertex holds its own literal twice, another refers below itself.

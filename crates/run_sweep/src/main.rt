@@ -6,11 +6,10 @@ mod asked;
 mod graph;
 mod show;
 
-ghost use Rattle.run_sweep.specs.code.Asked.{Asked, VERTICES};
-ghost use Rattle.std.specs.Prelude.{length, ◌≡◌};
+ghost use Rattle.run_sweep.specs.code.Asked.{Asked};
 
 use graph::VERTICES;
-use run_card_file::{card, card_count, field, number};
+use run_card_file::{CARD_STOP, field, number};
 use std::{fs, io};
 use sweep_state::task::Task;
 
@@ -42,8 +41,8 @@ fn sweep_all(rt: &impl Print, file: &[u8]) -> io::Result<()> {
         stages: [0; WORDS],
         rows: [0; ROWS_ROOM],
     };
-    for k in 0..card_count(file) {
-        sweep_card(rt, card(file, k), &mut slices)?;
+    for card in file.split(|b| *b == CARD_STOP) {
+        sweep_card(rt, card, &mut slices)?;
     }
     Ok(())
 }
@@ -63,7 +62,7 @@ fn sweep_card(rt: &impl Print, card: &[u8], slices: &mut Slices) -> io::Result<(
 fn show_sweep(rt: &impl Print, list: u32, task: Task, slices: &mut Slices) -> io::Result<()>
     requires { Asked task slices.old.pairs }
 {
-    let mut marks = no_marks();
+    let mut marks = [0; VERTICES];
     let ended = sweep::sweep(
         &mut slices.pairs,
         &mut slices.look,
@@ -76,10 +75,4 @@ fn show_sweep(rt: &impl Print, list: u32, task: Task, slices: &mut Slices) -> io
     show::show_reply(rt, list, ended, &slices.rows, task)?;
     show::show_marks(rt, &marks, task.count as usize)?;
     show::show_rows(rt, &slices.pairs, task.first, task.count)
-}
-
-fn no_marks() -> [u8; VERTICES]
-    ensures { VERTICES ≡ length result }
-{
-    [0; VERTICES]
 }

@@ -1,17 +1,17 @@
 // The line of a sweep.
-ghost use Rattle.std.specs.Prelude.{◌*◌, ◌<◌, ◌^◌, ◌≤◌, length, ◌≡◌};
-ghost use Rattle.bdd.specs.code.Store.{Store};
+ghost use Rattle.std.specs.Prelude.{◌*◌, ◌+◌, ◌≤◌, length};
+ghost use Rattle.compare_model.specs.Compare.{max_rows, max_steps};
+ghost use Rattle.compare_reply.specs.code.Followed.{Followed};
 ghost use Rattle.run_sweep.specs.code.Asked.{INPUTS};
-ghost use Rattle.sweep_state.specs.code.Ending.{Refers};
 
 use crate::asked::MAX_INPUTS;
-use bdd::difference::first_difference;
+use compare_reply::{reply_of, write_setting};
 use netlist_model::Edition;
 use std::io;
-use sweep_graph::words::{first_word, second_word};
-use sweep_model::{Counts, Reply};
-use sweep_state::end::{End, Ended};
+use sweep_model::Reply;
+use sweep_state::end::Ended;
 use sweep_state::task::Task;
+use words::{first_word, second_word};
 
 const LINE_ROOM: usize = report_format::LINE_ROOM + MAX_INPUTS;
 
@@ -23,50 +23,14 @@ pub fn show_reply(
     rows: &[u32],
     task: Task,
 ) -> io::Result<()>
-    requires store { Store rows.now task.rows ended.used }
-    requires references { Refers rows.now ended.used task.inputs ended.end }
-    requires counted { (ended.steps < 2 ^ 32) × (ended.added < 2 ^ 32) }
+    requires followed { Followed rows.now task.inputs ended.end }
+    requires counted { (ended.used + ended.added ≤ max_rows) × (ended.steps ≤ max_steps) }
     requires narrow { task.inputs ≤ INPUTS }
 {
-    let counts = Counts {
-        rows: ended.used as u32,
-        steps: ended.steps as u32,
-        added: ended.added as u32,
-    };
-    show_end(rt, list, ended, counts, rows, task)?;
-    show_number(rt, b"\t", counts.added)
-}
-
-// A Different has the first setting on which the two functions differ; where these are inverse, all inputs are 0.
-fn show_end(
-    rt: &impl Print,
-    list: u32,
-    ended: Ended,
-    counts: Counts,
-    rows: &[u32],
-    task: Task,
-) -> io::Result<()>
-    requires store { Store rows.now task.rows ended.used }
-    requires references { Refers rows.now ended.used task.inputs ended.end }
-    requires narrow { task.inputs ≤ INPUTS }
-{
-    let mut setting = zeros();
-    let inputs = task.inputs;
-    match ended.end {
-        End::Equal => show_line(rt, list, Reply::Equal(counts), b""),
-        End::Inverse => show_line(rt, list, Reply::Different(counts), &setting[..inputs]),
-        End::Differ(f, g) => {
-            first_difference(rows, inputs, f, g, &mut setting);
-            show_line(rt, list, Reply::Different(counts), &setting[..inputs])
-        }
-        End::Undecided(cause) => show_line(rt, list, Reply::Undecided(cause, counts), b""),
-    }
-}
-
-fn zeros() -> [u8; MAX_INPUTS]
-    ensures { INPUTS ≡ length result }
-{
-    [b'0'; MAX_INPUTS]
+    let mut setting = [0; MAX_INPUTS];
+    write_setting(ended.end, rows, task.inputs, &mut setting);
+    show_line(rt, list, reply_of(ended), &setting[..task.inputs])?;
+    print!(rt; "\t{}", ended.added)
 }
 
 fn show_line(rt: &impl Print, list: u32, reply: Reply, setting: &[u8]) -> io::Result<()> {
@@ -95,13 +59,7 @@ pub fn show_rows(rt: &impl Print, pairs: &[u32], first: u32, count: u32) -> io::
     requires { 2 * count ≤ length pairs.now }
 {
     for v in first..count {
-        show_number(rt, b"\t", first_word(pairs, v))?;
-        show_number(rt, b",", second_word(pairs, v))?;
+        print!(rt; "\t{},{}", first_word(pairs, v), second_word(pairs, v))?;
     }
     rt.write_all(b"\n")
-}
-
-fn show_number(rt: &impl Print, before: &[u8], number: u32) -> io::Result<()> {
-    rt.write_all(before)?;
-    rt.print(number)
 }

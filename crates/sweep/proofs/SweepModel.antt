@@ -1,6 +1,5 @@
 -- The whole sweep: its end is the model's answer.
-use Prim.Native.Nat.{ℕ}
-use Rattle.std.specs.Prelude.{Err, Ok, Result}
+use Rattle.std.specs.Prelude.{Err, Ok}
 use Rattle.sweep_model.specs.Sweep.{Progress, and_then, go, result_of, sweep}
 use Rattle.sweep_model.specs.declared.Cause.TheVariants.{Size}
 use Rattle.sweep_state.specs.code.Ending.{ended_with, verdict_of}
@@ -11,12 +10,11 @@ use Rattle.sweep_state.specs.code.Sweep.{lent}
 use Rattle.sweep_state.specs.declared.end.Ended.{Ended}
 use Rattle.sweep_state.specs.declared.sweep.Sweep.{Sweep}
 use Rattle.sweep_state.specs.declared.task.Task.{Task}
-use Rattle.sweep_start.specs.code.Start.{Starts, SweepAsked}
+use Rattle.sweep_start.specs.code.Start.{Starts}
 use Rattle.sweep_turn.proofs.EndModel.{represents-closed}
-use Rattle.sweep_turn.specs.code.Turn.{Goes, RestIn, RestOn, first_context, gone}
+use Rattle.sweep_turn.specs.code.Turn.{Goes, RestOn, first_context, gone}
 use Rattle.sweep.specs.code.Sweep.{Rests, SweepAnswers, Sweeps}
-use mathlib.Core.List.{List}
-use mathlib.Core.Path.{◌∙◌, ◌≡◌, ap, subst, sym}
+use mathlib.Core.Path.{◌∙◌, ◌≡◌, ap, subst}
 
 module _ (s after : Sweep) where
   -- None waits: undecided, by Size.
@@ -35,16 +33,6 @@ module _ (s after : Sweep) where
 
 module _ (t : Task) (b : Workspace) (middle : Sweep) (same : middle.task ≡ t) where
   module _ (starts : Starts t b (lent middle) middle.used middle.steps (Ok tt)) where
-    -- The first turn can begin.
-    pub start-rests : {look : List ℕ} → SweepAsked t look b → RestIn middle
-    start-rests a =
-        record {
-          context = first_context t a.functions b.pairs (lent middle) middle.used middle.steps;
-          on =
-              subst (λ (k : Task). RestOn k (first_context t a.functions b.pairs (lent middle) middle.used middle.steps) middle.used middle.steps (lent middle))
-              (sym same) (starts a.functions a.has-functions).rests;
-        }
-
     -- The turns answer.
     pub sweep_goes_on : (after : Sweep) {r : Ended} → Rests middle after r → Sweeps t b (lent after) r
     unfolding and_then go sweep

@@ -24,12 +24,7 @@ fn finish(s: &mut Sweep<'_>) -> Ended
     ensures kept { Kept s.old s.new }
 {
     match go(s) {
-        Ok(()) => Ended {
-            end: End::Undecided(Cause::Size),
-            used: s.used,
-            steps: s.steps,
-            added: 0,
-        },
+        Ok(()) => s.ended(End::Undecided(Cause::Size), 0),
         Err(ended) => ended,
     }
 }

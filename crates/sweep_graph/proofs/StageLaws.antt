@@ -7,6 +7,8 @@ use Rattle.sweep_graph.specs.declared.stage.Stage.TheVariants as code
 use Rattle.sweep_model.specs.Normalise.{wake}
 use Rattle.sweep_model.specs.State.{Stage, again, bare, bare?, dropped, gone, gone?, has?, open?, opened, stage_of, waiting, waits?}
 use Rattle.truth.proofs.Booleans.{clash}
+use Rattle.sweep_graph.specs.contracts.stage.Stage.{the_type}
+use denote.Enum.Bare.{sameb}
 use borrow.Author.Tests.{lt-leb, ne_eqb}
 use lib.Dec.{eqb, leb}
 use lib.ListN.{get_or, length, length-set, set}
@@ -82,23 +84,24 @@ open_not code.Again a b = absurd (b refl)
 open_not code.Dropped a b = refl
 open_not code.Gone a b = refl
 
-pub bare_not : (s : declared.Stage) → (s ≡ code.Bare → ⊥) → false ≡ bare? (staged s)
+-- Equality with one stage is the test of it.
+pub is_bare : (s : declared.Stage) → sameb the_type s code.Bare ≡ bare? (staged s)
 unfolding bare?
-bare_not code.Bare a = absurd (a refl)
-bare_not code.Waiting a = refl
-bare_not code.Opened a = refl
-bare_not code.Again a = refl
-bare_not code.Dropped a = refl
-bare_not code.Gone a = refl
+is_bare code.Bare = refl
+is_bare code.Waiting = refl
+is_bare code.Opened = refl
+is_bare code.Again = refl
+is_bare code.Dropped = refl
+is_bare code.Gone = refl
 
-pub gone_not : (s : declared.Stage) → (s ≡ code.Gone → ⊥) → false ≡ gone? (staged s)
+pub is_gone : (s : declared.Stage) → sameb the_type s code.Gone ≡ gone? (staged s)
 unfolding gone?
-gone_not code.Bare a = refl
-gone_not code.Waiting a = refl
-gone_not code.Opened a = refl
-gone_not code.Again a = refl
-gone_not code.Dropped a = refl
-gone_not code.Gone a = absurd (a refl)
+is_gone code.Bare = refl
+is_gone code.Waiting = refl
+is_gone code.Opened = refl
+is_gone code.Again = refl
+is_gone code.Dropped = refl
+is_gone code.Gone = refl
 
 -- A woken stage: open and waiting again, or waiting.
 pub wake-open : (s : Stage) → open? s ≡ true → again ≡ wake s

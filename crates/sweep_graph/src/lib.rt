@@ -4,4 +4,3 @@
 pub mod reference;
 pub mod resolve;
 pub mod stage;
-pub mod words;

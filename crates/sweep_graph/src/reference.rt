@@ -6,10 +6,10 @@ ghost use Rattle.bdd.specs.Diagram.{edge};
 ghost use Rattle.bdd.specs.code.Owners.{with_owner};
 ghost use Rattle.bdd.specs.code.Rows.{RADIX};
 
-use crate::words::first_word;
 use aig::literal::Literal;
 use bdd::references::edge_to;
 use bdd::rows::set_owner;
+use words::first_word;
 
 // The reference of a literal's function, by its vertex's diagram.
 pub fn reference_of(diagrams: &[u32], r: Literal) -> usize

@@ -3,8 +3,8 @@ ghost use Rattle.std.specs.Prelude.{◌*◌, ◌+◌, ◌<◌, length, ◌≡◌
 ghost use Rattle.aig.specs.Literal.{lit, vertex_of};
 ghost use Rattle.sweep_model.specs.Normalise.{resolve};
 
-use crate::words::{first_word, second_word};
 use aig::literal::Literal;
+use words::{first_word, second_word};
 
 // What a literal became: the one that its vertex was merged into, inverted where it is, or else itself.
 pub fn resolve(pairs: &[u32], r: Literal) -> Literal

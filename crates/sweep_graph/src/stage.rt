@@ -37,13 +37,13 @@ impl Stage {
     pub fn is_bare(self) -> bool
         ensures { result ≡ bare? (staged self) }
     {
-        matches!(self, Stage::Bare)
+        self == Stage::Bare
     }
 
     pub fn is_gone(self) -> bool
         ensures { result ≡ gone? (staged self) }
     {
-        matches!(self, Stage::Gone)
+        self == Stage::Gone
     }
 
     // The stage of a vertex that takes a diagram and waits again.
@@ -72,7 +72,7 @@ impl From<Stage> for u32 {
     }
 }
 
-// There is no stage past the last, which counts as merged.
+// A word past 5 is read as that of a merged vertex.
 impl From<u32> for Stage {
     ghost from_gives = { λ word stage. staged stage ≡ word_stage word };
 
@@ -96,6 +96,7 @@ pub fn stage_at(stages: &[u32], v: u32) -> Stage
     Stage::from(stages[2 * v as usize])
 }
 
+// Any word may be written: a `Stage` would ask more of callers.
 pub fn set_stage(stages: &mut [u32], v: u32, stage: u32)
     requires { 2 * v < length stages.old }
     ensures { stages.new ≡ with_stage stages.old v stage }

@@ -4,10 +4,10 @@ ghost use Rattle.sweep_state.specs.code.Meet.{MergeAsked, inverse?, joined, merg
 ghost use Rattle.sweep_state.specs.code.Sweep.{handed, lent, put_lent, put_look, put_pairs};
 
 use aig::literal::Literal;
-use sweep_graph::words::first_word;
 use sweep_normalise::normalise::normalise;
 use sweep_state::sweep::Sweep;
 use sweep_take::take::takes;
+use words::first_word;
 
 // Whether the diagrams of two vertices, on one row, are inverse.
 fn are_inverse(s: &Sweep<'_>, v: u32, w: u32) -> bool

@@ -2,10 +2,11 @@
 use Rattle.std.specs.Prelude.{None, Option, Some}
 use Prim.Native.Nat.{◌+◌, ◌-◌, ◌<◌, ◌≤◌, suc, zero, ℕ}
 use Rattle.aig.specs.Lookup.{first_word, second_word}
-use Rattle.sweep_pick.specs.code.Pick.{least_from, lesser, pick_here, twin_of}
+use Rattle.sweep_pick.specs.code.Pick.{least_from, lesser, pick_here}
 use Rattle.sweep_graph.specs.code.Stages.{stages_from, stages_of, word_stage}
 use Rattle.sweep_model.specs.State.{Problem, function_of, waits?}
 use Rattle.sweep_model.specs.Sweep.{Candidate, at, pick_from, smaller}
+use Rattle.sweep_state.specs.code.Meet.{twin_of}
 use Rattle.truth.specs.Parts.{size}
 use lib.Dec.{leb}
 use mathlib.Core.Bool.{Bool, cond, false, true}

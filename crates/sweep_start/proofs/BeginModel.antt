@@ -162,10 +162,6 @@ module _ (t : Task) (b middle : Workspace) (prepares : Prepares t b middle) wher
   pub prepared_looks : {look : List ℕ} → SweepAsked t look b → Looks t middle.pairs middle.arrays.diagrams middle.arrays.stages
   prepared_looks h = looks (prepares h.functions h.has-functions).prepared.represents
 
-  -- What giving the inputs needs is there.
-  pub prepared-giving : {look : List ℕ} → SweepAsked t look b → GivingIn t middle
-  prepared-giving h = record { functions = h.functions; entry = b.pairs; prepared = (prepares h.functions h.has-functions).prepared }
-
   module _ {seen : Option End} (es : seen ≡ seen_by t middle.pairs middle.arrays.diagrams middle.arrays.stages) where
     -- The model's start, by what was seen.
     start_seen :

@@ -1,13 +1,10 @@
 -- The row of an input.
-use Prim.Native.Nat.{◌*◌, ◌-◌, ◌/◌, ◌<◌, ◌^◌, ◌≤◌, ℕ}
+use Prim.Native.Nat.{◌-◌, ℕ}
 use Rattle.bdd.proofs.DiagramLaws.{constant-reference}
 use Rattle.bdd_unique.proofs.MakeLaws.{MakeAsked}
-use Rattle.bdd_unique.specs.code.Unique.{MadeAt}
 use Rattle.sweep_state.specs.code.Arrays.{Arrays}
 use Rattle.sweep_state.specs.declared.task.Task.{Task}
 use Rattle.sweep_start.specs.code.Inputs.{RowAsked, level_of}
-use lib.ListN.{length}
-use mathlib.Core.List.{List}
 use mathlib.Core.Path.{refl}
 use native.Mathlib.Omega.{arith}
 
@@ -22,13 +19,3 @@ module _ {t : Task} {v used : ℕ} {a : Arrays} (q : RowAsked t v used a) where
         low = constant-reference a.rows used (level_of t v - 1) 0 refl;
         high = constant-reference a.rows used (level_of t v - 1) 1 refl;
       }
-
--- A row that was made stands in the slice.
-pub made-within :
-    {s rows : List ℕ} {limit n level low high r u : ℕ} → MadeAt s rows limit n level low high r u → r / 2 * 4 ≤ length rows
-made-within m =
-    omega (arith, m.reference.stored, m.grown.store.room.used, m.grown.store.room.long)
-
--- Its reference fits a word.
-pub made-small : {s rows : List ℕ} {limit n level low high r u : ℕ} → MadeAt s rows limit n level low high r u → r < 2 ^ 32
-made-small m = omega (arith, m.reference.stored, m.grown.store.room.used, m.grown.store.room.small)

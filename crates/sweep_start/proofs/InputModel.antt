@@ -22,7 +22,7 @@ use Rattle.sweep_state.specs.code.Arrays.{Arrays}
 use Rattle.sweep_state.specs.code.Words.{Words, posed, state_of}
 use Rattle.sweep_state.specs.declared.task.Task.{Task}
 use Rattle.sweep_start.specs.code.Given.{AllGiven, GivenTo, HasInputContext, InputContext, ShortAt, giving_from, state_in}
-use Rattle.sweep_start.specs.code.Inputs.{RowAsked, RowGiven, RowLacked, level_of}
+use Rattle.sweep_start.specs.code.Inputs.{RowGiven, RowLacked, level_of}
 use Rattle.sweep_turn.proofs.EndModel.{marked-closed, represents-closed}
 use Rattle.truth.proofs.Parts.{constants_differ, size-input}
 use Rattle.truth.specs.Parts.{size}
@@ -116,22 +116,6 @@ module _ {t : Task} {functions : List Truth} {entry : List ℕ} {w : Words} (rep
 
 -- Vertex v, the next input.
 module _ {t : Task} {x : InputContext} {a : Arrays} {used : ℕ} where
-  -- What giving it its row needs is there.
-  pub given-asked : {v : ℕ} → GivenTo t x a used v → 1 ≤ v → v < t.first → RowAsked t v used a
-  given-asked g l h =
-      let rep = g.represents in
-      let inside = rep.fit.well_formed.first-within in
-      record {
-        store = rep.store;
-        narrow = rep.narrow;
-        from = l;
-        to = omega (arith, rep.fit.well_formed.first-few);
-        few = omega (arith, inside, rep.count, rep.few);
-        diagram_within = omega (arith, inside, rep.count, rep.diagrams-long);
-        stage-within = omega (arith, inside, rep.count, rep.stages-long);
-        mark-within = omega (arith, inside, rep.count, rep.marks-long);
-      }
-
   -- Its row is given.
   pub given-row : {b : Arrays} {more : ℕ} (v : ℕ) → GivenTo t x a used v → 1 ≤ v → v < t.first → RowGiven t v used a b more
       → give_row v (state_in t x a used) (input_row (posed t x.functions) v (state_in t x a used)) ≡ on (state_in t x b more)
@@ -187,9 +171,6 @@ along_begins f =
     record { from = omega arith; to = f.given.represents.fit.well_formed.some_first; here = λ x g. g; ahead = λ x g. refl }
 
 module _ {t : Task} {a₀ : Arrays} {used₀ : ℕ} {a : Arrays} {used v : ℕ} (s : Along t a₀ used₀ a used v) where
-  pub along-asks : HasInputContext t a₀ used₀ → v < t.first → RowAsked t v used a
-  along-asks f h = given-asked (s.here f.context f.given) s.from h
-
   pub along-goes-on : {b : Arrays} {more : ℕ} → v < t.first → RowGiven t v used a b more → Along t a₀ used₀ b more (v + 1)
   unfolding and_then
   along-goes-on {b} {more} h r =

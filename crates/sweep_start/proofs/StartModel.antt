@@ -50,10 +50,6 @@ begun-has stages count v h e =
           ∙ cleared-word stages (2 * count) (2 * v) (omega arith)))
     ]
 
--- What holds of the rows that a store leaves holds of the slice.
-pub cleared-as : {s t u : List ℕ} {limit : ℕ} → t ≡ u → Cleared s u limit → Cleared s t limit
-cleared-as e h = rw e h
-
 -- The workspace of pairs, of what handing over left, and of marks.
 abbrev pub workspace_with : List ℕ → Held → List ℕ → Workspace
 workspace_with pairs h marks = workspace pairs (arrays h.diagrams h.stages h.rows marks)

@@ -16,14 +16,6 @@ use sweep_state::sweep::Sweep;
 use sweep_take::take::takes;
 use sweep_turn::visit::after_look;
 
-// The rows are those of an empty store.
-fn clear_rows(rows: &mut [u32], limit: usize)
-    requires { StoreRoom rows.old limit 0 }
-    ensures { Cleared rows.old rows.new limit }
-{
-    let _store = clear(rows, limit);
-}
-
 // No row is used and no step is taken.
 fn empty(s: &mut Sweep<'_>)
     requires { StoreRoom s.old.rows.now s.old.task.rows 0 }
@@ -31,7 +23,7 @@ fn empty(s: &mut Sweep<'_>)
     ensures left { s.new ≡ put_counts 0 0 (put_rows s.new.rows.now s.old) }
     ensures long { length s.new.rows.now ≡ length s.old.rows.now }
 {
-    clear_rows(s.rows, s.task.rows);
+    let _store = clear(s.rows, s.task.rows);
     s.used = 0;
     s.steps = 0;
 }
@@ -57,13 +49,8 @@ fn give_inputs(s: &mut Sweep<'_>) -> Result<(), Ended>
     ensures kept { Kept s.old s.new }
 {
     match give_rows(s) {
-        Ok(()) => after_look(look(s), s.used, s.steps),
-        Err(v) => Err(Ended {
-            end: End::Undecided(Cause::Rows(v)),
-            used: s.used,
-            steps: s.steps,
-            added: 0,
-        }),
+        Ok(()) => after_look(s, look(s)),
+        Err(v) => Err(s.ended(End::Undecided(Cause::Rows(v)), 0)),
     }
 }
 
@@ -74,6 +61,6 @@ pub fn start(s: &mut Sweep<'_>) -> Result<(), Ended>
     ensures kept { Kept s.old s.new }
 {
     prepare(s);
-    after_look(look(s), s.used, s.steps)?;
+    after_look(s, look(s))?;
     give_inputs(s)
 }

@@ -15,7 +15,7 @@ use Rattle.sweep_model.specs.Sweep as model
 use Rattle.sweep_model.specs.Sweep.{at, none, twin_from}
 use Rattle.sweep_state.proofs.DrawModel.{Draws, carried}
 use Rattle.sweep_state.proofs.LookModel.{has-stage}
-use Rattle.sweep_state.specs.code.Meet.{twin_at}
+use Rattle.sweep_state.specs.code.Meet.{twin_at, twin_of}
 use Rattle.sweep_state.specs.code.Represents.{Represents}
 use Rattle.sweep_state.specs.code.Words.{Words, posed}
 use Rattle.sweep_state.specs.declared.task.Task.{Task}
@@ -31,11 +31,6 @@ use mathlib.Core.Logic.{◌≢◌}
 use mathlib.Core.Path.{◌∙◌, ◌≡◌, ap, ap₂, refl, subst, sym}
 use native.Mathlib.Decide.{dec_le}
 use native.Mathlib.Omega.{arith}
-
--- The model's answer that the code's stands for.
-abbrev pub answered : Option ℕ → model.Candidate
-answered (Some w) = at w
-answered None = none
 
 -- What the answer says of the row.
 data Answered (rows : List ℕ) (i : ℕ) : Option ℕ → Type 0 where
@@ -126,11 +121,11 @@ module _
           omega (arith, ap (owner_at w.rows) i, d.grown.kept.owners (first_word w.diagrams x / 2) g.within.stored, ap (owner_at rows) i, n)
 
   -- The answer is the model's.
-  pub twin_models : twin_from (posed t functions) stages v 0 (length stages) ≡ answered (twin_at rows reference)
+  pub twin_models : twin_from (posed t functions) stages v 0 (length stages) ≡ twin_of (twin_at rows reference)
   unfolding Tells
   twin_models = go (twin_at rows reference) tells (twin_from (posed t functions) stages v 0 (length stages)) refl
     where
-      go : (o : Option ℕ) → Tells o → (m : model.Candidate) → twin_from (posed t functions) stages v 0 (length stages) ≡ m → m ≡ answered o
+      go : (o : Option ℕ) → Tells o → (m : model.Candidate) → twin_from (posed t functions) stages v 0 (length stages) ≡ m → m ≡ twin_of o
       go (Some x) y (at z) e =
           ap at
           (twin-one (posed t functions) stages rep.reachable.apart v z x

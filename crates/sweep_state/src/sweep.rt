@@ -10,16 +10,19 @@ ghost use Rattle.sweep_state.specs.code.Look.{reference_of};
 ghost use Rattle.sweep_state.specs.code.Marks.{mark_byte};
 ghost use Rattle.sweep_state.specs.code.Sweep.{put_diagrams, put_marks, put_pairs, put_rows, put_stages};
 
+use crate::end::{End, Ended};
 use crate::mark::Mark;
 use crate::task::Task;
 use aig::literal::Literal;
 use sweep_graph::reference::{own_row, reference_of};
 use sweep_graph::resolve::resolve;
 use sweep_graph::stage::{Stage, set_stage, stage_at};
-use sweep_graph::words::{first_word, second_word, set_words};
+use words::{first_word, second_word, set_words};
 
 // The slices that the caller lends, what is asked, the rows used and the steps taken. The pairs, the look-up, the diagrams (reference and
 // size) and the stages have two words a vertex, the marks a byte.
+// The store of the rows is a literal in each function that needs it: a method that lends it was tried and has no generated proof, and a function
+// of its three fields would be called with the same three.
 // No ghost field: the contracts give the sweep after a call as `record s { .. }`, which a fact about a field would not allow.
 #[derive(Drop)]
 pub struct Sweep<'a> {
@@ -35,7 +38,7 @@ pub struct Sweep<'a> {
 }
 
 impl<'a> Sweep<'a> {
-    // The two words of a vertex's row.
+    // The two words of a vertex's row. Words, as in the slices: each contract and definition would unpack `Literal`s.
     pub fn pair(&self, v: u32) -> (u32, u32)
         requires { 2 * v + 1 < length self.now.pairs.now }
         ensures { result ≡ record { 0 = first_word self.now.pairs.now v; 1 = second_word self.now.pairs.now v } }
@@ -90,7 +93,7 @@ impl<'a> Sweep<'a> {
         requires { 2 * v + 1 < length self.now.diagrams.now }
         ensures { result ≡ second_word self.now.diagrams.now v }
     {
-        second_word(&self.diagrams[..], v)
+        self.diagram(v).1
     }
 
     pub fn set_diagram(&mut self, v: u32, reference: u32, size: u32)
@@ -121,5 +124,17 @@ impl<'a> Sweep<'a> {
         ensures { self.new ≡ put_marks (set self.old.marks.now v (mark_byte mark)) self.old }
     {
         self.marks[v as usize] = u8::from(mark);
+    }
+
+    // An end, with the rows used and the steps taken, and the rows that a product which broke off had added.
+    pub fn ended(&self, end: End, added: usize) -> Ended
+        ensures { result ≡ record { end = end; used = self.now.used; steps = self.now.steps; added = added } }
+    {
+        Ended {
+            end,
+            used: self.used,
+            steps: self.steps,
+            added,
+        }
     }
 }

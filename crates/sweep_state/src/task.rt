@@ -2,6 +2,7 @@
 
 // How many vertices come first (the constant and the inputs) and how many there are; the inputs; the two literals looked at; the limits on
 // size, rows and steps.
+// The literals are numbers, as the definitions of a sweep have them: each contract and definition would unpack a `Literal`.
 #[derive(Clone, Copy, Debug, PartialEq, Eq)]
 pub struct Task {
     pub first: u32,

@@ -22,8 +22,8 @@ use Rattle.sweep_state.proofs.HandLaws.{Handed}
 use Rattle.sweep_state.proofs.LookModel.{has-stage}
 use Rattle.sweep_merge.proofs.MeetLaws.{drawn-room, meet-asks, merge-graph}
 use Rattle.sweep_state.proofs.NormaliseModel.{Normalises, normalised-represents, normalised_state, sound-graph}
-use Rattle.sweep_state.proofs.TwinModel.{answered, twin-asked, twin-found, twin_models}
-use Rattle.sweep_state.specs.code.Meet.{MeetAsked, MergeAsked, Workspace, held_of, inverse?, joined, merged_workspace, met_with, met_workspace, twin_at, workspace}
+use Rattle.sweep_state.proofs.TwinModel.{twin-asked, twin-found, twin_models}
+use Rattle.sweep_state.specs.code.Meet.{MeetAsked, MergeAsked, Workspace, held_of, inverse?, joined, merged_workspace, met_with, met_workspace, twin_at, twin_of, workspace}
 use Rattle.sweep_state.specs.code.Represents.{Drawing, Represents}
 use Rattle.sweep_state.specs.code.Settle.{on_workspace, workspace_of}
 use Rattle.sweep_state.specs.code.Arrays.{Arrays, arrays, drawn_at}
@@ -118,7 +118,7 @@ module _
     alone_represents o =
         drawn-represents rep d k
         (product-reachable rep.fit due rep.reachable (book_of rows u k) ran small
-        (twin_models rep d ∙ ap answered o))
+        (twin_models rep d ∙ ap twin_of o))
 
     -- With a twin.
     module _ (x : ℕ) (o : twin_at rows reference ≡ Some x) where
@@ -178,7 +178,7 @@ module _
       -- The sweep reaches the state to which it is normalised.
       joint_reached : Reachable p entry (normalise t.first joint)
       unfolding meet
-      joint_reached = merged-reachable rep.fit due rep.reachable (book_of rows u k) ran small x (twin_models rep d ∙ ap answered o)
+      joint_reached = merged-reachable rep.fit due rep.reachable (book_of rows u k) ran small x (twin_models rep d ∙ ap twin_of o)
 
       joint_normalises : Normalises t functions entry (joined w.pairs v x (inverse? drawn.diagrams v x)) rows u (held_of drawn) joint
       joint_normalises =
@@ -210,7 +210,7 @@ module _
     met-state = rw (twin_models rep d) (go (twin_at rows reference) refl)
       where
         go : (o : Option ℕ) → twin_at rows reference ≡ o
-            → state_of t.count (on_workspace (met_with t v (workspace w.pairs drawn) o) u k) ≡ meet p v before (answered o)
+            → state_of t.count (on_workspace (met_with t v (workspace w.pairs drawn) o) u k) ≡ meet p v before (twin_of o)
         go None e = alone_state e
         go (Some x) e = merged-state x e
 

@@ -1,5 +1,5 @@
 -- A product that is done, dropped or met, as in the model.
-use Prim.Native.Nat.{◌*◌, ◌<◌, ◌^◌, ◌≤◌, ℕ}
+use Prim.Native.Nat.{◌*◌, ◌<◌, ◌≤◌, ℕ}
 use Rattle.bdd.specs.code.Store.{Store}
 use Rattle.bdd_size.specs.code.Marks.{Sized}
 use Rattle.bdd_unique.specs.code.Unique.{GivenBack}
@@ -21,10 +21,6 @@ use mathlib.Core.Path.{◌∙◌, ◌≡◌, ap, sym}
 use native.Mathlib.Omega.{arith}
 
 module _ {t : Task} {x : BeforeProduct} {v reference used kept : ℕ} {b : Workspace} (e : Ended t x v reference used kept b) where
-  -- The reference fits a word.
-  pub ended-small : reference < 2 ^ 32
-  ended-small = omega (arith, e.within.stored, e.grown.store.room.used, e.grown.store.room.small)
-
   -- The size that was measured.
   pub ended-size : {after : List ℕ} {c : ℕ} → Sized b.arrays.rows after reference c → c ≡ size (function_of (posed t x.functions) v)
   ended-size s = s.sized t.inputs e.within.fits ∙ ap size e.means

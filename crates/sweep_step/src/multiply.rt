@@ -49,12 +49,7 @@ pub fn multiply(s: &mut Sweep<'_>, v: u32) -> Result<Option<End>, Ended>
         Err(short) => {
             let added = s.used - kept;
             break_off(s, v, kept);
-            Err(Ended {
-                end: end_by(short, v),
-                used: s.used,
-                steps: s.steps,
-                added,
-            })
+            Err(s.ended(end_by(short, v), added))
         }
     }
 }

@@ -3,7 +3,8 @@ use Prim.Native.Nat.{◌*◌, ◌<◌, ◌≤◌, suc, ℕ}
 use Rattle.std.specs.Prelude.{Err, None, Ok, Option, Result, Some}
 use Rattle.sweep_pick.proofs.PickLaws.{Least, Sized, least-is, pick_models}
 use Rattle.sweep_graph.proofs.StageLaws.{stage_at}
-use Rattle.sweep_pick.specs.code.Pick.{least_from, twin_of}
+use Rattle.sweep_pick.specs.code.Pick.{least_from}
+use Rattle.sweep_state.specs.code.Meet.{twin_of}
 use Rattle.sweep_model.proofs.Bound.{go-enough, go_stops, go-turns, open-turns, scanning-budget}
 use Rattle.sweep_model.proofs.Stages.{waits-has}
 use Rattle.sweep_model.proofs.Steady.{opened_at}
@@ -23,8 +24,7 @@ use Rattle.sweep_turn.proofs.ScanModel.{asked-as, asked-same}
 use Rattle.sweep_turn.specs.code.Turn.{Goes, OpenIn, OpenOn, Opens, RestIn, RestOn, first_context, gone, opened_by}
 use lib.ListN.{length}
 use mathlib.Core.Bool.{true}
-use mathlib.Core.List.{List}
-use mathlib.Core.Path.{◌∙◌, ◌≡◌, ap, refl, subst, sym}
+use mathlib.Core.Path.{◌∙◌, ◌≡◌, ap, subst, sym}
 use native.Mathlib.Omega.{arith}
 
 -- The model's turns from here on.

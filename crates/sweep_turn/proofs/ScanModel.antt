@@ -11,7 +11,7 @@ use Rattle.sweep_state.specs.declared.sweep.Sweep.{Sweep}
 use Rattle.sweep_state.specs.declared.task.Task.{Task}
 use Rattle.sweep_step.specs.code.Multiply.{Context}
 use Rattle.sweep_turn.specs.code.Scan.{Scans, scanned_from}
-use Rattle.sweep_turn.specs.code.Visit.{ScanIn, ScanOn, Visits, visited}
+use Rattle.sweep_turn.specs.code.Visit.{ScanOn, Visits, visited}
 use mathlib.Core.Path.{◌∙◌, ◌≡◌, ap, refl, subst, sym}
 use native.Mathlib.Numerals.{add-one}
 use native.Mathlib.Omega.{arith}
@@ -46,9 +46,6 @@ pub scan_begins : {from : ℕ} {a : Sweep} → from ≤ a.task.count → Scanned
 scan_begins h = record { to = h; kept = kept-same; here = λ x o. o; ahead = λ x o. refl }
 
 module _ {from : ℕ} {a : Sweep} {v : ℕ} {s : Sweep} (k : Scanned from a v s) where
-  pub scan-asks : ScanIn from a → ScanIn v s
-  scan-asks i = subst (ScanIn v) (asked-same k.kept) (record { context = i.context; here = k.here i.context i.here })
-
   -- A visit, as of the task at first.
   visits-first : (after : Sweep) (g : Result (Unit {0}) Ended) → Visits v s after g → Visits v (asked-as a s) after g
   visits-first after g visits = subst (λ (z : Sweep). Visits v z after g) (sym (asked-same k.kept)) visits

@@ -23,9 +23,9 @@ use Rattle.sweep_state.specs.declared.sweep.Sweep.{Sweep}
 use Rattle.sweep_state.specs.declared.task.Task.{Task}
 use Rattle.sweep_step.specs.code.Multiply.{Context, DueIn, DueOn, Takes, multiplied}
 use Rattle.sweep_turn.proofs.EndModel.{looked-ends}
-use Rattle.sweep_turn.specs.code.Visit.{ReadyAsked, ScanIn, ScanOn, Visits, going_by, open_word, ready_at, visited}
+use Rattle.sweep_turn.specs.code.Visit.{ScanIn, ScanOn, Visits, going_by, open_word, ready_at, visited}
 use Rattle.truth.proofs.Booleans.{and_left, and_right}
-use borrow.Author.Tests.{le-leb, leb-true, lt-leb}
+use borrow.Author.Tests.{le-leb, leb-true}
 use lib.Dec.{leb}
 use mathlib.Core.Bool.{Bool, ◌&&◌, false, true}
 use mathlib.Core.List.{List}
@@ -51,16 +51,6 @@ module _ {t : Task} {x : Context} {v used steps : ℕ} {b : Workspace} (h : Scan
         | yes m ↦ (omega (arith, rows_down.first_below v m inside), omega (arith, rows_down.second_below v m inside))
         | no m ↦ (let o = rows_down.own v (omega arith) in (omega (arith, o.first), omega (arith, o.second)))
       ]
-
-  -- What the test needs is there.
-  pub ready-asked : ReadyAsked v b.pairs b.arrays.stages
-  ready-asked =
-      record {
-        stage = omega (arith, h.represents.stages-long);
-        pair = omega (arith, rows_down.long);
-        first-stage = omega (arith, word_below.0, h.represents.stages-long);
-        second-stage = omega (arith, word_below.1, h.represents.stages-long);
-      }
 
   -- The test is the model's.
   ready_models : ready? (posed t x.functions) v (state_on t b used steps) ≡ ready_at t v b.pairs b.arrays.stages
@@ -109,10 +99,6 @@ module _ {t : Task} {x : Context} {v used steps : ℕ} {b : Workspace} (h : Scan
 
 -- The test, answer by answer.
 module _ (t : Task) (v : ℕ) (pairs stages : List ℕ) where
-  pub ready-first : v < t.first → false ≡ ready_at t v pairs stages
-  unfolding ready_at
-  ready-first l = rw (lt-leb t.first v l) refl
-
   module _ (made : t.first ≤ v) {s : ℕ} (es : s ≡ first_word stages v) {a : Bool} (ea : a ≡ bare? (word_stage s)) where
     pub ready_not_bare : a ≡ false → false ≡ ready_at t v pairs stages
     unfolding ready_at
@@ -122,10 +108,6 @@ module _ (t : Task) (v : ℕ) (pairs stages : List ℕ) where
       pub ready_not_open : c ≡ false → false ≡ ready_at t v pairs stages
       unfolding ready_at
       ready_not_open e = rw (le-leb t.first v made, ← es, ← ea, is-bare, ← el, ← ec, e) refl
-
-      pub ready-open : c ≡ true → {r : ℕ} → r ≡ second_word pairs v → {d : Bool} → d ≡ open_word stages (vertex_of r) → d ≡ ready_at t v pairs stages
-      unfolding ready_at
-      ready-open e er ed = rw (le-leb t.first v made, ← es, ← ea, is-bare, ← el, ← ec, e, ← er, ← ed) refl
 
 -- What a visit comes to, by what its product came to.
 abbrev pub going_of : Sweep → Result (Option End) Ended → Result (Unit {0}) Ended

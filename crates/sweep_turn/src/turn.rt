@@ -20,7 +20,7 @@ fn open(s: &mut Sweep<'_>, v: u32) -> Result<(), Ended>
     scan(s, v + 1)
 }
 
-// Turns until the sweep ends or none waits.
+// Turns until the sweep ends or none waits: a `while`, since nothing is counted.
 pub fn go(s: &mut Sweep<'_>) -> Result<(), Ended>
     requires rest { RestIn s.old }
     requires long { 2 * s.old.task.count ≤ length s.old.look.now }

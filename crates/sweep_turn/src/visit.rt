@@ -5,10 +5,10 @@ ghost use Rattle.sweep_state.specs.code.Sweep.{Kept};
 ghost use Rattle.sweep_turn.specs.code.Visit.{ReadyAsked, ScanIn, Visits, going_by, open_word, ready_at};
 
 use aig::literal::Literal;
-use sweep_graph::words::{first_word, second_word};
 use sweep_state::end::{End, Ended};
 use sweep_state::sweep::Sweep;
 use sweep_step::multiply::multiply;
+use words::{first_word, second_word};
 
 fn operand_is_open(s: &Sweep<'_>, r: Literal) -> bool
     requires { 2 * vertex_of r.0 < length s.now.stages.now }
@@ -30,16 +30,11 @@ fn is_ready(s: &Sweep<'_>, v: u32) -> bool
 }
 
 // How a sweep goes on after what was seen.
-pub fn after_look(seen: Option<End>, used: usize, steps: usize) -> Result<(), Ended>
-    ensures { result ≡ going_by seen used steps }
+pub fn after_look(s: &Sweep<'_>, seen: Option<End>) -> Result<(), Ended>
+    ensures { result ≡ going_by seen s.now.used s.now.steps }
 {
     match seen {
-        Some(end) => Err(Ended {
-            end,
-            used,
-            steps,
-            added: 0,
-        }),
+        Some(end) => Err(s.ended(end, 0)),
         None => Ok(()),
     }
 }
@@ -53,7 +48,7 @@ pub fn visit(s: &mut Sweep<'_>, v: u32) -> Result<(), Ended>
 {
     if is_ready(s, v) {
         let seen = multiply(s, v)?;
-        return after_look(seen, s.used, s.steps);
+        return after_look(s, seen);
     }
     Ok(())
 }

@@ -1,5 +1,6 @@
 -- Where a table's rows and output references stand among its words.
 use Rattle.std.proofs.lemmas.Grind.{common_steps}
+use Rattle.std.proofs.lemmas.List.{get_or-map}
 use Prim.Native.Nat.{◌*◌, ◌+◌, ◌-◌, ◌<◌, ◌≤◌, suc, zero, ℕ}
 use Rattle.table.specs.Table.{graph_of, made_of, output_words, outputs, outputs_of, pairs, promised, row_at, rows_of, side_outputs, side_start}
 use Rattle.table.specs.Values.{Pair}
@@ -7,15 +8,13 @@ use borrow.Author.Tests.{eq-eqb, ne_eqb}
 use lib.Dec.{eqb}
 use lib.ListN.{drop, get_or, length, length-drop, length-take, take}
 use mathlib.Core.Bool.{Bool, cond, false, true}
-use mathlib.Core.List.{List, [], ◌∷◌, map}
+use mathlib.Core.List.{List, ◌∷◌, map}
 use mathlib.Core.Path.{◌∙◌, ◌≡◌, ap, refl}
 use native.Mathlib.Omega.{arith}
 
 -- What stands at a place of a list that is mapped.
 pub map_at : {A B : Type 0} (f : A → B) (xs : List A) (i : ℕ) (d : B) (e : A) → i < length xs → get_or (map f xs) i d ≡ f (get_or xs i e)
-map_at f [] i d e h = absurd (omega arith)
-map_at f (x ∷ xs) zero d e h = refl
-map_at f (x ∷ xs) (suc i) d e h = map_at f xs i d e (omega arith)
+map_at f xs i d e h = get_or-map f xs i e d h
 
 -- The first of some rows is read off, and the others stand two words further.
 pub pairs_suc : (n at : ℕ) (ws : List ℕ) → pairs (suc n) (drop at ws) ≡ row_at ws at ∷ pairs n (drop (at + 2) ws)

@@ -25,6 +25,7 @@ pub fn beyond_limits(inputs: u32, made: u32, outputs: u32) -> bool
 }
 
 // Words that are a whole table with a header within the limits.
+// That the refusals 10 and 11 do not apply to them stays a clause where it is needed (`Accepted`): the tests of both read a `Table`.
 #[derive(Clone, Copy)]
 pub struct Table<'a> {
     pub words: &'a [u32],
@@ -59,7 +60,7 @@ impl<'a> Table<'a> {
     }
 
     // The first word after the rows: that of the first output.
-    fn rows_end(&self) -> usize
+    pub fn rows_end(&self) -> usize
         ensures { result ≡ 3 + 2 * made_of self.now.words.now }
     {
         HEADER + 2 * self.made() as usize

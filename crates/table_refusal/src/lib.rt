@@ -1,7 +1,7 @@
 // The refusals 10 and 11: whether some words are a table that keeps the rules.
 #![tactic(auto)]
 
-ghost use Rattle.std.specs.Prelude.{◌+◌, ◌≡◌, IfOk};
+ghost use Rattle.std.specs.Prelude.{◌*◌, ◌+◌, ◌<◌, ◌^◌, ◌≡◌, IfOk};
 ghost use Rattle.refusal.specs.Number.{refusal_number};
 ghost use Rattle.table.specs.Refusals.{first_refusal};
 ghost use Rattle.table.specs.Table.{all_below?, downward?, inputs_of, malformed?, out_of_order?, row_below?, rows_of, table_tests};
@@ -24,10 +24,13 @@ fn is_malformed(words: &[u32]) -> bool
     words.len() < HEADER + 2 * made as usize + 2 * outputs as usize + 1
 }
 
-fn row_below(row: (Literal, Literal), bound: u32) -> bool
-    ensures { result ≡ row_below? bound (row.0.0, row.1.0) }
+// Whether the literals of a vertex's row are below its own.
+fn row_below(row: (Literal, Literal), vertex: u32) -> bool
+    requires { vertex < 2 ^ 31 }
+    ensures { result ≡ row_below? (2 * vertex) (row.0.0, row.1.0) }
 {
-    row.0.0 < bound && row.1.0 < bound
+    let own = Literal::new(vertex, false);
+    row.0 < own && row.1 < own
 }
 
 // Whether each row's literals are below twice its vertex.
@@ -35,12 +38,7 @@ fn is_downward(table: &Table<'_>) -> bool
     ensures { result ≡ downward? (1 + inputs_of table.now.words.now) (rows_of table.now.words.now) }
 {
     let first = 1 + table.inputs();
-    for i in 0..table.made() {
-        if !row_below(table.row(i as usize), 2 * (first + i)) {
-            return false;
-        }
-    }
-    true
+    (0..table.made()).all(|i| row_below(table.row(i as usize), first + i))
 }
 
 // Whether all words of a part are below a bound.
@@ -53,7 +51,7 @@ fn all_below(words: &[u32], bound: u32) -> bool
 fn is_out_of_order(table: &Table<'_>) -> bool
     ensures { result ≡ out_of_order? table.now.words.now }
 {
-    let from = HEADER + 2 * table.made() as usize;
+    let from = table.rows_end();
     let end = from + 2 * table.outputs() as usize;
     let bound = 2 * table.vertices() as u32;
     if !is_downward(table) {
@@ -66,6 +64,7 @@ fn is_out_of_order(table: &Table<'_>) -> bool
 }
 
 // Some words as a table, or the first of the refusals 10 and 11 that applies to them.
+#[tactic(auto, unfolding(table::specs::Refusals::first_refusal))]
 pub fn check(words: &[u32]) -> Result<Table<'_>, Refusal>
     ensures refusal { refusal_number result ≡ first_refusal 0 (table_tests words.now) }
     ensures table { IfOk result (λ t. t.words.now ≡ words.now) }

@@ -16,7 +16,7 @@ pub fn part_count(s: &[u8], stop: u8) -> usize
     1 + s.iter().filter(|b| **b == stop).count()
 }
 
-// Part `k` of `s`, counted from 0; no bytes where there are no more than `k`.
+// Part `k` of `s`, counted from 0; no bytes where there are no more than `k`: each caller would make an `Option` that.
 pub fn part(s: &[u8], k: usize, stop: u8) -> &[u8]
     ensures { result.now ≡ get_or (split_at stop s.now) k [] }
 {

@@ -1,11 +1,13 @@
 -- A refusal, or the sweep and what follows it; no loop.
 -- The laws say it of the arguments as given.
 use Rattle.compare_model.proofs.RefusalLaws.{passed}
-use Rattle.compare_model.specs.Compare.{Given}
+use Rattle.compare_model.specs.Compare.{Given, setting_left}
 use Rattle.compare_model.specs.Said.{replied, said_of}
 use Rattle.refusal.proofs.NumberLaws.{passed_on}
 use Rattle.comparer.proofs.CompareLaws.{finished, finishes, refusal_found, turned_back_lem}
 use Rattle.comparer.specs.Lent.{given, holding, left}
+use Rattle.sweep_state.specs.code.Ending.{verdict_of}
+use Rattle.table.specs.Table.{inputs_of}
 use mathlib.Core.Path.{◌∙◌, ap, refl, sym}
 use Rattle.comparer.proofs.compare.Goals as goal
 
@@ -48,9 +50,9 @@ returns-clause-compared c =
     let finish = c.finish in
     record {
       result =
-          ap (λ m. left (replied finish.result) finish.new.table m.now finish.new.lent.setting.now) finish.ensures.marks_kept
+          ap (λ l. left (replied finish.result) finish.new.table l.marks.now l.setting.now) finish.ensures.left
           ∙ finished g run.new.lent.pairs.now run.new.lent.rows.now run.new.lent.marks.now run.result (rw c.in_ok-words.ensures.table at run.ensures.swept) h
-          finish.result finish.new.table finish.new.lent.setting.now finish.ensures.table_after
-          (rw run.ensures.setting_kept at finish.ensures.setting_after) finish.ensures.result_value;
+          finish.result finish.new.table _ finish.ensures.table_after
+          (ap (λ s. setting_left (verdict_of run.new.lent.rows.now (inputs_of a.table.now) run.result.end) s.now) run.ensures.setting_kept) finish.ensures.result_value;
       kept = λ n. absurd (n h);
     }

@@ -2,6 +2,7 @@
 use Rattle.std.specs.Prelude.{◌*◌, ◌+◌, ◌≤◌, ℕ, length, take, List, ◌≡◌}
 use Rattle.bdd.specs.code.Store.{Store}
 use Rattle.compare_model.specs.Compare.{Given, answer_to, limits_of, max_rows, max_steps, next_rows, over_front, problem_of}
+use Rattle.compare_model.specs.declared.Lent.{Lent}
 use Rattle.compare_model.specs.declared.Limits.{Limits as Asked}
 use Rattle.compare_reply.specs.code.Followed.{Followed}
 use Rattle.comparer.specs.Lent.{Slices, given}
@@ -38,6 +39,10 @@ pub record SweepRan (g : Given) (pairs rows marks : List ℕ) (e : Ended) : Type
 -- The same, by the slices of the comparison.
 abbrev pub Swept : ℕ → Asked → Slices → Slices → Ended → Type 0
 Swept output limits before after e = SweepRan (given output limits before) after.pairs after.rows after.marks e
+
+-- The slices with another setting in theirs.
+abbrev pub put_setting : List ℕ → Lent → Lent
+put_setting s l = record l { setting = record l.setting { now = s } }
 
 -- What finishing needs.
 pub record Finishes (table pairs rows : List ℕ) (e : Ended) (setting : ℕ) : Type 0 where

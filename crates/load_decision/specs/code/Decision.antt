@@ -1,6 +1,7 @@
 -- What load decides before it writes: a refusal, or that two files with some counts are loaded.
 use Rattle.std.specs.Prelude.{ℕ, List, ◌≡◌, Result, Err, Ok}
 use Rattle.load_model.specs.Load.{LoadRoom, length_tests, pair_tests}
+use Rattle.load_model.specs.declared.Accepted.{Accepted}
 use Rattle.load_model.specs.declared.Refused.{Refused}
 use Rattle.netlist_model.specs.Check.{Answer, accepted, check_file, refused, summary_counts}
 use Rattle.netlist_model.specs.Limits.{number_of_edition}
@@ -30,8 +31,8 @@ pub data Decision : Type 0 where
   go : Summary → Summary → Decision
 
 -- The same, of what is decided.
-abbrev pub decided : Result (Summary × Summary) Refused → Decision
-decided (Ok p) = go p.0 p.1
+abbrev pub decided : Result (Accepted × Accepted) Refused → Decision
+decided (Ok p) = go p.0.summary p.1.summary
 decided (Err r) = stopped (number_of r.refusal) r.file r.line
 
 -- The result of the check of a file: its answer, and where its gate lines start.

@@ -1,4 +1,4 @@
-use Rattle.load_file.proofs.Passing.{gates-begin, gates-due, gates-ended, gates-next, gates-passed}
+use Rattle.load_file.proofs.Passing.{gates-begin, gates-due, gates-next, gates-passed}
 use Rattle.load_file.proofs.ask_gates.Goals as goal
 use borrow.Author.Rules.{rules}
 
@@ -7,9 +7,6 @@ loop-vertex-init c = record { ahead = gates-begin _ c.requires.lines; same = sea
 
 pub ask_line-requires-clause-line : goal.ask_line-requires-clause-line
 ask_line-requires-clause-line c = gates-due c.loop-vertex.invariant.ahead c.loop-vertex-test.true
-
-pub line_end-at-requires : goal.line_end-at-requires
-line_end-at-requires c = gates-ended c.loop-vertex.invariant.ahead c.loop-vertex-test.true
 
 pub loop-vertex-preserved : goal.loop-vertex-preserved
 loop-vertex-preserved c = record {

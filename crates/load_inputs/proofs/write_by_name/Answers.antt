@@ -1,39 +1,52 @@
-use Rattle.netlist_names.proofs.Finding.{first_ended, here-name, here_record, walk_begins, walk_here}
-use Rattle.load_inputs.proofs.Naming.{named-ends, named_length, named-turn, place-most, place-told}
-use Rattle.words.proofs.Writing.{writing_begins}
+-- The literals of the names passed are written; no more are written than there is room for.
+use Rattle.load_inputs.proofs.Naming.{named-ends, named_length, place-most, place-told}
+use Rattle.netlist_names.proofs.Finding.{names_count}
+use Rattle.netlist_names.specs.code.Left.{names_left}
+use Rattle.std.proofs.Common.{ap, arith, length}
+use Rattle.words.proofs.Writing.{writing-turn, writing_begins}
 use lib.ListN.{length-set}
-use mathlib.Core.Path.{ap}
-use Prim.Native.Nat.{◌*◌, ◌+◌, ℕ}
-use native.Mathlib.Omega.{arith}
 use Rattle.load_inputs.proofs.write_by_name.Goals as goal
 
-pub line_end-at-requires : goal.line_end-at-requires
-line_end-at-requires c = first_ended c.requires.right
-
 pub loop-k-init : goal.loop-k-init
-loop-k-init c = rw c.line_end-at.ensures (walk_begins _ c.requires.right (record { writing = writing_begins _ 1 _ }))
-
-pub name_at-name-requires-clause-at_in_bounds : goal.name_at-name-requires-clause-at_in_bounds
-name_at-name-requires-clause-at_in_bounds c = omega (arith, (walk_here _ c.loop-k.invariant c.loop-k-test.true).ended)
-
-pub name_at-name-requires-clause-file_value : goal.name_at-name-requires-clause-file_value
-name_at-name-requires-clause-file_value c = here_record (walk_here _ c.loop-k.invariant c.loop-k-test.true)
+loop-k-init c =
+    rw (c.into_iter-k-iterator.ensures.into_iter_gives, c.enumerate-k-items.ensures.source, c.enumerate-k-items.ensures.count)
+    (writing_begins _ 1 _, omega (arith, names_count c.args.right))
 
 pub overflow_add-literals : goal.overflow_add-literals
-overflow_add-literals c = omega (arith, place-most c.requires.left _ c.find_name.ensures c.unwrap_or-place.ensures, c.requires.room.0)
+overflow_add-literals c =
+    let s = c.in-Some.ensures.steps in
+    omega (
+      arith,
+      place-most (names_left c.args.left) (names_count c.args.left) _ c.find_name.ensures c.unwrap_or-place.ensures,
+      s.1,
+      ap length s.0,
+      c.loop-k.invariant.1,
+      c.requires,
+    )
 
 pub overflow_mul-literals : goal.overflow_mul-literals
-overflow_mul-literals c = omega (arith, place-most c.requires.left _ c.find_name.ensures c.unwrap_or-place.ensures, c.requires.room.0)
-
-pub line_end-at-requires-in-loop-k : goal.line_end-at-requires-in-loop-k
-line_end-at-requires-in-loop-k c = (walk_here _ c.loop-k.invariant c.loop-k-test.true).ended
+overflow_mul-literals c =
+    let s = c.in-Some.ensures.steps in
+    omega (
+      arith,
+      place-most (names_left c.args.left) (names_count c.args.left) _ c.find_name.ensures c.unwrap_or-place.ensures,
+      s.1,
+      ap length s.0,
+      c.loop-k.invariant.1,
+      c.requires,
+    )
 
 pub loop-k-preserved : goal.loop-k-preserved
 loop-k-preserved c =
-    let n = walk_here _ c.loop-k.invariant c.loop-k-test.true in
-    rw c.line_end-at-in-loop-k.ensures
-    (named-turn n (omega (arith, named_length c.loop-k.invariant, c.loop-k-test.true, c.requires.room, length-set c.args.literals.now 0 0)) _
-    (ap (λ (p : ℕ). 2 * (1 + p)) (rw (here-name n c.name_at-name.ensures) at (place-told c.requires.left _ c.find_name.ensures c.unwrap_or-place.ensures))))
+    let s = c.in-Some.ensures.steps in
+    let told = place-told (names_left c.args.left) (names_count c.args.left) _ c.find_name.ensures c.unwrap_or-place.ensures in (
+      rw (s.1, s.2, told)
+          (writing-turn (rw s.0 at c.loop-k.invariant.0)
+          (omega (arith, ap length s.0, c.loop-k.invariant, named_length c.loop-k.invariant.0, length-set c.args.literals.now 0 0, c.requires))),
+      omega (arith, s.2, ap length s.0, c.loop-k.invariant.1),
+    )
 
 pub returns : goal.returns
-returns c = named-ends c.args.literals.now (omega (arith, c.requires.room)) c.loop-k.invariant c.loop-k-test.false
+returns c =
+    named-ends (names_left c.args.left) (names_left c.args.right) c.args.literals.now (omega (arith, c.requires.2))
+    (rw c.in-None.ensures.steps.0.0 at c.loop-k.invariant.0)

@@ -1,9 +1,12 @@
--- The invariant: the lines of the second file's names not yet passed start at `at`, and the literals of the `k` names passed are written.
-use Rattle.netlist_model.specs.code.Passing.{front_names}
-use Rattle.netlist_names.proofs.Finding.{Walk}
-use Rattle.load_inputs.proofs.Naming.{Named}
+-- The invariant: the literals of the constant and of the names passed are written, and those of the names left are ahead.
+use Rattle.load_inputs.proofs.Naming.{literal_of}
+use Rattle.netlist_names.specs.code.Left.{names_left}
+use Rattle.std.proofs.Common.{◌+◌, ◌≡◌, length, map}
+use Rattle.words.proofs.Writing.{Writing}
 use Rattle.load_inputs.proofs.write_by_name.Given as goal
 
 abbrev pub invariant-loop-k : goal.invariant-loop-k
 invariant-loop-k l =
-    Walk (Named (front_names l.count l.left) (front_names l.count l.right) l.initial.literals l.literals) l.right l.count l.at l.k
+    Writing l.initial.literals 1 (map (literal_of (names_left l.left)) (names_left l.right)) l.literals (l.k-iterator.count + 1)
+    (map (literal_of (names_left l.left)) (names_left l.k-iterator.iter))
+    × (l.k-iterator.count + length (names_left l.k-iterator.iter) ≡ l.right.left)

@@ -1,17 +1,13 @@
 -- The lines of names from a place on.
 use Rattle.std.specs.Prelude.{suc, ℕ, drop, take, List, [], ◌∷◌}
 use Rattle.netlist_model.specs.Check.{names_in}
-use Rattle.netlist_model.specs.Records.{Line, constraint_line, file_lines, gate_line, header_line, malformed_line, name_line, output_line}
+use Rattle.netlist_model.specs.Records.{Line, file_lines, name_line}
 
 -- How many lines of names some lines begin with.
 abbrev pub leading_names : List Line → ℕ
 leading_names [] = 0
 leading_names (name_line name ∷ ls) = suc (leading_names ls)
-leading_names (header_line e i g o ∷ ls) = 0
-leading_names (gate_line op p q ∷ ls) = 0
-leading_names (output_line r ∷ ls) = 0
-leading_names (constraint_line r ∷ ls) = 0
-leading_names (malformed_line ∷ ls) = 0
+leading_names (_ ∷ ls) = 0
 
 -- How many a file has from a place on.
 unfoldable pub names_ahead : List ℕ → ℕ → ℕ

@@ -6,13 +6,10 @@ use borrow.Author.Rules.{rules}
 use native.Mathlib.Omega.{arith}
 use Rattle.report_lines.proofs.report_table.Goals as goal
 
-pub report_outputs-requires : goal.report_outputs-requires
-report_outputs-requires c =
+pub report_outputs-requires-clause-reply_room_in_bounds : goal.report_outputs-requires-clause-reply_room_in_bounds
+report_outputs-requires-clause-reply_room_in_bounds c =
     let head = head-stored c.requires.report_room_in_bounds c.write_head-at.ensures in
-    let formed = c.requires.ready.accepted.formed in record {
-      ready = c.requires.ready;
-      reply_room_in_bounds = omega (arith, head.stored.place, head.short, c.write_head-at.auto.out, formed.outputs, c.requires.report_room_in_bounds);
-    }
+    omega (arith, head.stored.place, head.short, c.write_head-at.auto.out, c.requires.ready.accepted.formed.outputs, c.requires.report_room_in_bounds)
 
 pub returns-clause-stored_within : goal.returns-clause-stored_within
 returns-clause-stored_within c =

@@ -5,12 +5,13 @@ use Rattle.comparer.specs.Lent.{holding}
 use Rattle.load_model.specs.Load.{answer_of}
 use Rattle.report_model.proofs.ReportLaws.{long-enough, report_short, works-accepted}
 use Rattle.report_model.specs.Report.{Lent, load_room, program_limits, short?}
-use Rattle.report_pair.proofs.ReportLaws.{accepted_report, front-stored, refused_report, refused_unchanged, same-room, table-ready}
+use Rattle.report_pair.proofs.ReportLaws.{accepted_report, front-stored, kept-as, refused_report, refused_unchanged, same-room, table-ready}
 use Rattle.report_pair.specs.Lent.{lent}
 use Rattle.truth.proofs.Booleans.{clash}
 use lib.ListN.{length}
 use mathlib.Core.Bool.{false}
 use mathlib.Core.Path.{◌∙◌, ◌≡◌, ap, refl, sym}
+use borrow.Author.Rules.{rules}
 use native.Mathlib.Omega.{arith}
 use Rattle.report_pair.proofs.report_pair.Goals as goal
 
@@ -24,7 +25,7 @@ returns-then-is_short-clause-reported c =
 
 pub report_table-requires : goal.report_table-requires
 report_table-requires c =
-    let load = c.load_in in
+    let load = c.load in
     let a = c.args in
     let l : Lent = lent a.out.now (holding a.table.now a.lent.now) in
     let long : short? l ≡ false = sym (rw c.lengths.ensures at c.is_short.ensures) ∙ c.if-is_short.false in
@@ -35,7 +36,7 @@ report_table-requires c =
 
 pub returns-in-Err-clause-reported : goal.returns-in-Err-clause-reported
 returns-in-Err-clause-reported c =
-    let load = c.load_in in
+    let load = c.load in
     let told = ap answer_of c.in-Err.is in
     let a = c.args in
     let l : Lent = lent a.out.now (holding a.table.now a.lent.now) in
@@ -44,12 +45,12 @@ returns-in-Err-clause-reported c =
       result =
           refused_report a.left.now a.right.now l long (answer_of load.result) load.ensures.result load.new.table load.ensures.table _ _ _ told (omega (arith, bounds.out)) _ _
           (rw c.from-number.ensures at c.write_refused.ensures);
-      kept = λ h. refused_unchanged (answer_of load.result) told load.ensures.kept refl;
+      kept = λ h. refused_unchanged (answer_of load.result) told (kept-as _ _ (search rules) (search rules) (search rules) (search rules) load.ensures.kept) refl;
     }
 
 pub returns-in-Ok-clause-reported : goal.returns-in-Ok-clause-reported
 returns-in-Ok-clause-reported c =
-    let load = c.load_in in
+    let load = c.load in
     let table = c.report_table in
     let told = ap answer_of c.in-Ok.is in
     let a = c.args in
@@ -58,7 +59,7 @@ returns-in-Ok-clause-reported c =
       result =
           accepted_report a.left.now a.right.now l long (answer_of load.result) load.ensures.result load.new.table load.ensures.table _ _ told _ _ _ table.result
           (ap (λ (r : CompareRoom). record { table = load.new.table; output = 0; limits = program_limits; room = r; marks = a.lent.now.marks.now; setting = a.lent.now.setting.now })
-          (same-room load.auto.pairs load.auto.look load.auto.literals load.auto.outputs refl))
+          (same-room (search rules) (search rules) (search rules) (search rules) refl))
           (rw c.from-edition.ensures at table.ensures.stored_within.stored) table.ensures.left_after;
       kept = λ h. clash (works-accepted a.left.now a.right.now l long _ _ (sym load.ensures.result ∙ told)) h;
     }

@@ -1,14 +1,8 @@
 -- The start, and what follows it; no loop.
 -- One law for each way that the start comes out.
-use Rattle.sweep.proofs.SweepModel.{start-answers, start-rests, sweep_goes_on}
-use Rattle.sweep_state.proofs.LongLaws.{kept-then}
+use Rattle.sweep.proofs.SweepModel.{start-answers, sweep_goes_on}
 use Rattle.sweep_state.specs.code.Sweep.{lent}
 use Rattle.sweep.proofs.run.Goals as goal
-
-pub finish-requires-clause-rest : goal.finish-requires-clause-rest
-finish-requires-clause-rest c =
-    let begun = c.in-Ok.ensures in
-    start-rests c.args.s.now.task (lent c.args.s.now) c.start.new.s begun.kept.task begun.started c.requires
 
 pub returns-in-Ok-clause-swept : goal.returns-in-Ok-clause-swept
 returns-in-Ok-clause-swept c =
@@ -19,6 +13,3 @@ pub returns-in-Err-clause-swept : goal.returns-in-Err-clause-swept
 returns-in-Err-clause-swept c =
     let begun = c.in-Err.ensures in
     start-answers c.args.s.now.task (lent c.args.s.now) c.start.new.s begun.kept.task c.in-Err.ended begun.started
-
-pub returns-in-Ok-clause-kept : goal.returns-in-Ok-clause-kept
-returns-in-Ok-clause-kept c = kept-then c.in-Ok.ensures.kept c.finish.ensures.kept

@@ -1,5 +1,5 @@
 -- The whole sweep, as in the model.
-use Rattle.std.specs.Prelude.{ℕ, List, ◌≡◌}
+use Rattle.std.specs.Prelude.{List, ◌≡◌}
 use Rattle.sweep_model.specs.Sweep.{Result, result_of, sweep}
 use Rattle.sweep_state.specs.code.Ending.{Closed, verdict_of}
 use Rattle.sweep_state.specs.code.Meet.{Workspace}

@@ -7,6 +7,7 @@ use Rattle.bdd.specs.code.Rows.{owner_at}
 use Rattle.sweep_graph.specs.code.Graph.{Graph}
 use Rattle.sweep_graph.specs.code.Takes.{Held, TakesRoom, held, takes_words}
 use Rattle.sweep_model.specs.Normalise.{merged_into, normalise_from}
+use Rattle.sweep_model.specs.Sweep.{Candidate, at, none}
 use Rattle.sweep_state.specs.code.Arrays.{Arrays, arrays, drawn_at}
 use Rattle.sweep_state.specs.declared.task.Task.{Task}
 
@@ -14,6 +15,11 @@ use Rattle.sweep_state.specs.declared.task.Task.{Task}
 unfoldable pub twin_at : List ℕ → ℕ → Option ℕ
 twin_at rows reference =
     cond (eqb (reference / 2) 0) (Some 0) (cond (eqb (owner_at rows (reference / 2)) 0) None (Some (owner_at rows (reference / 2))))
+
+-- The model's answer that the code's stands for: where a vertex's twin is sought, and where one is picked.
+abbrev pub twin_of : Option ℕ → Candidate
+twin_of (Some v) = at v
+twin_of None = none
 
 -- Whether the diagrams of two vertices, on one row, are inverse.
 unfoldable pub inverse? : List ℕ → ℕ → ℕ → Bool

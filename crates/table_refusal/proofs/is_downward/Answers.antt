@@ -1,26 +1,15 @@
-use Rattle.std.proofs.Common.{◌≡◌, ◌-◌, refl, rules, arith}
-use Rattle.table_refusal.proofs.TestLaws.{downward_step}
-use Rattle.table.specs.Table.{downward?, made_of, pairs, rows_of}
+-- The library's test of all rows is the definition's.
+use Rattle.std.proofs.Common.{◌*◌, ◌+◌, ◌∙◌, refl, rules, tests, arith}
+use Rattle.std.proofs.lemmas.Iterator.{YieldsList-from_range}
+use Rattle.std.proofs.lemmas.Iterator.Search.{all_from_yields_List}
+use Rattle.table.specs.Table.{made_of, inputs_of, row_at, row_below?, rows_of}
+use Rattle.table_refusal.proofs.TestLaws.{rows-below}
 use Rattle.table_refusal.proofs.is_downward.Goals as goal
 
-pub loop-i-init : goal.loop-i-init
-unfolding rows_of
-loop-i-init c = search rules
-
-pub returns-then-not-row_below : goal.returns-then-not-row_below
-returns-then-not-row_below c =
-    let lt = rw c.made-i-end.ensures at c.loop-i-test.true in
-    let e = rw (c.row.ensures.first, c.row.ensures.second, c.inputs-first.ensures) at c.if-not-row_below.ensures in
-    rw (c.loop-i.invariant, downward_step _ 3 _ _ _ lt, ← e) refl
-
-pub loop-i-preserved : goal.loop-i-preserved
-loop-i-preserved c =
-    let lt = rw c.made-i-end.ensures at c.loop-i-test.true in
-    let e = rw (c.row.ensures.first, c.row.ensures.second, c.inputs-first.ensures) at c.if-not-row_below.ensures in
-    rw (c.loop-i.invariant, downward_step _ 3 _ _ _ lt, ← e) refl
-
 pub returns : goal.returns
-unfolding downward? pairs
+unfolding rows_of
 returns c =
-    let none : made_of c.args.table.now.words.now - c.loop-i.i ≡ 0 = omega (arith, c.made-i-end.ensures, c.loop-i-test.false) in
-    rw (c.loop-i.invariant, none) refl
+    let ws = c.args.table.now.words.now in
+    all_from_yields_List (λ i. row_below? (2 * (1 + inputs_of ws + i)) (row_at ws (3 + 2 * i))) _ _ c.all.result c.all.ensures.ran
+    (YieldsList-from_range 0 (made_of ws) (made_of ws) (rw c.made.ensures refl) (omega arith)) (λ x b q k. search (rules, tests))
+    ∙ rows-below (1 + inputs_of ws) 3 (made_of ws) ws

@@ -1,11 +1,15 @@
-use Rattle.std.proofs.Common.{rules, tests}
+use Rattle.std.proofs.Common.{◌≡◌, ◌*◌, arith, rules, tests}
 use Rattle.table.specs.Table.{row_below?}
 use Rattle.table_refusal.proofs.row_below.Goals as goal
 
-pub returns-then-row-bound : goal.returns-then-row-bound
+pub returns-then-lt : goal.returns-then-lt
 unfolding row_below?
-returns-then-row-bound c = search (rules, tests)
+returns-then-lt c =
+    let own : c.new-own.result.0 ≡ 2 * c.args.vertex = rw c.new-own.ensures (omega arith) in
+    rw (← own) (search (rules, tests))
 
-pub returns-else-row-bound : goal.returns-else-row-bound
+pub returns-else-lt : goal.returns-else-lt
 unfolding row_below?
-returns-else-row-bound c = search (rules, tests)
+returns-else-lt c =
+    let own : c.new-own.result.0 ≡ 2 * c.args.vertex = rw c.new-own.ensures (omega arith) in
+    rw (← own) (search (rules, tests))

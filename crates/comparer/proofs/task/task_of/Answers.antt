@@ -15,8 +15,7 @@ overflow_add-result-2 c =
       arith,
       c.next_count.ensures a.output,
       next-few a.table.now.words.now a.output (limits_of a.limits),
-      c.made.ensures,
-      c.inputs-inputs.ensures,
+      c.vertices-vertices.ensures,
       c.args.table.now.formed.made,
       c.args.table.now.formed.inputs,
     )
@@ -25,7 +24,7 @@ pub returns : goal.returns
 unfolding problem_of
 returns c =
     let a = c.args in
-    let vertices = ap₂ (λ (x y : ℕ). 1 + x + y) c.inputs-inputs.ensures c.made.ensures in
+    let vertices = c.vertices-vertices.ensures in
     let first = ap (λ (r : Literal). r.0) c.output_literal-left.ensures in
     let second = ap (λ (r : Literal). r.0) c.output_literal-right.ensures in
     record {

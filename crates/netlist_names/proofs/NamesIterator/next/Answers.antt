@@ -16,7 +16,8 @@ pub name_at-name-requires-clause-file_value : goal.name_at-name-requires-clause-
 name_at-name-requires-clause-file_value c = next-record (next_name c.args.self.now.there (omega (arith, c.if-self-eq0.false)))
 
 pub line_end-self-requires : goal.line_end-self-requires
-line_end-self-requires c = (next_name c.args.self.now.there (omega (arith, c.if-self-eq0.false))).ended
+line_end-self-requires c =
+    let n = next_name c.args.self.now.there (omega (arith, c.if-self-eq0.false)) in omega (arith, n.ended)
 
 pub invariant_of-self : goal.invariant_of-self
 invariant_of-self c =

@@ -1,27 +1,18 @@
-use Prim.Native.Nat.{◌-◌}
-use Rattle.sweep_pick.proofs.PickLaws.{least-is, least_more}
-use Rattle.sweep_pick.specs.code.Pick.{least_from}
-use mathlib.Core.Path.{◌∙◌, ◌≡◌, refl, sym}
-use native.Mathlib.Omega.{arith}
+use Rattle.std.proofs.Common.{arith, rules, ◌∙◌}
+use Rattle.std.proofs.lemmas.Iterator.{YieldsList-from_range}
+use Rattle.std.proofs.lemmas.Iterator.Consumers.{YieldsList-from_filter}
+use Rattle.aig.specs.Lookup.{first_word}
+use Rattle.sweep_graph.specs.code.Stages.{word_stage}
+use Rattle.sweep_model.specs.State.{waits?}
+use Rattle.sweep_pick.proofs.PassLaws.{least-waiting, least_of_list}
+use borrow.Author.Tests.{tests}
 use Rattle.sweep_pick.proofs.pick.pick.Goals as goal
 
-pub loop-v-init : goal.loop-v-init
-unfolding least_from
-loop-v-init c =
-    let none : c.args.s.now.task.count - c.args.s.now.task.count ≡ 0 = omega arith in
-    rw none refl
-
-pub pick_here-picked-requires : goal.pick_here-picked-requires
-pick_here-picked-requires c = (
-  omega arith,
-  (
-    omega arith,
-    λ w e.
-        omega (arith, (least-is c.args.s.now.stages.now c.args.s.now.diagrams.now (c.args.s.now.task.count - c.loop-v.v) c.loop-v.v w (sym c.loop-v.invariant ∙ e)).within),
-  ),
-)
-
-pub loop-v-preserved : goal.loop-v-preserved
-loop-v-preserved c =
-    least_more c.args.s.now.stages.now c.args.s.now.diagrams.now c.args.s.now.task.count c.loop-v.v (omega arith) (omega arith)
-    c.loop-v.invariant c.pick_here-picked.ensures
+pub returns : goal.returns
+returns c =
+    let s = c.args.s.now in
+    least_of_list s.diagrams.now _ _ (λ x k q h. search (rules, tests)) _ _ _ c.min_by_key.ensures.ran
+    (YieldsList-from_filter _ (λ v. waits? (word_stage (first_word s.stages.now v)))
+    (YieldsList-from_range 0 s.task.count s.task.count c.filter.ensures.source (omega arith)) c.filter.ensures.closure
+    (λ x b q h. search (rules, tests)))
+    ∙ least-waiting s.diagrams.now s.stages.now s.task.count 0

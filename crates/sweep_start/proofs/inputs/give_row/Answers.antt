@@ -3,7 +3,6 @@ use Rattle.sweep_state.proofs.LongLaws.{drawn-long, lengths-then}
 use Rattle.sweep_state.specs.code.Arrays.{on_rows}
 use Rattle.sweep_state.specs.code.Meet.{workspace}
 use Rattle.sweep_state.specs.code.Sweep.{lent}
-use lib.ListN.{length-set}
 use mathlib.Core.Path.{refl}
 use Rattle.sweep_start.proofs.inputs.give_row.Goals as goal
 
@@ -15,10 +14,3 @@ returns-in-Some-clause-long c =
     (lengths-then {b = workspace s.pairs.now (on_rows c.make_row.new.s.rows.now (lent s).arrays)}
     (record { pairs = refl; diagrams = refl; stages = refl; rows = row.long; marks = refl })
     (drawn-long c.args.v c.in-Some.reference 1 (workspace s.pairs.now (on_rows c.make_row.new.s.rows.now (lent s).arrays))))
-
-pub returns-in-None-clause-long : goal.returns-in-None-clause-long
-returns-in-None-clause-long c =
-    let s = c.args.s.now in
-    let row = c.in-None.ensures in
-    rw (c.mark.ensures, row.left)
-    (record { pairs = refl; diagrams = refl; stages = refl; rows = row.long; marks = length-set s.marks.now c.args.v 3 })

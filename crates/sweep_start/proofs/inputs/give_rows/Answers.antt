@@ -32,6 +32,3 @@ loop-v-preserved c =
 
 pub returns-clause-given : goal.returns-clause-given
 returns-clause-given c = λ x g. along-ends c.loop-v.invariant.along c.loop-v-test.false x g
-
-pub returns-in_err-give_row-clause-long : goal.returns-in_err-give_row-clause-long
-returns-in_err-give_row-clause-long c = lengths-then c.loop-v.invariant.long c.in_err-give_row.ensures.long

@@ -1,10 +1,7 @@
 -- Whether every input got its row decides; no loop.
 -- One law for each answer, for all functions and entry rows.
 use Rattle.sweep_start.proofs.BeginModel.{given-goes, given_looks, given-short, giving_framed}
-use Rattle.sweep_state.proofs.LongLaws.{kept-put}
-use Rattle.sweep_state.specs.code.Meet.{workspace}
 use Rattle.sweep_state.specs.code.Sweep.{lent}
-use mathlib.Core.Path.{refl}
 use Rattle.sweep_start.proofs.start.give_inputs.Goals as goal
 
 pub give_rows-requires : goal.give_rows-requires
@@ -29,19 +26,5 @@ pub returns-in-Err-clause-given : goal.returns-in-Err-clause-given
 returns-in-Err-clause-given c =
     let s = c.args.s.now in
     let after = c.give_rows.new.s in
-    rw (c.in-Err.ensures.left, c.requires.counts.1)
+    rw (c.ended.ensures, c.in-Err.ensures.left, c.requires.counts.1)
     (given-short s.task (lent s) (lent after).arrays c.in-Err.v after.used (rw c.requires.counts.0 at c.in-Err.ensures.given))
-
-pub returns-in-Ok-clause-kept : goal.returns-in-Ok-clause-kept
-returns-in-Ok-clause-kept c =
-    let s = c.args.s.now in
-    let after = c.give_rows.new.s in
-    rw c.in-Ok.ensures.left
-    (kept-put s s.look.now (workspace s.pairs.now (lent after).arrays) after.used s.steps refl (rw c.in-Ok.ensures.left at c.in-Ok.ensures.long))
-
-pub returns-in-Err-clause-kept : goal.returns-in-Err-clause-kept
-returns-in-Err-clause-kept c =
-    let s = c.args.s.now in
-    let after = c.give_rows.new.s in
-    rw c.in-Err.ensures.left
-    (kept-put s s.look.now (workspace s.pairs.now (lent after).arrays) after.used s.steps refl (rw c.in-Err.ensures.left at c.in-Err.ensures.long))

@@ -5,22 +5,16 @@ use Rattle.aig.specs.Lookup.{cleared}
 use Rattle.sweep_model.specs.Normalise.{normalise_from}
 use Rattle.sweep_pick.proofs.BeginLaws.{cleared_length}
 use Rattle.sweep_pick.specs.code.Begin.{begun_arrays}
-use Rattle.sweep_start.proofs.StartModel.{start-graph, start-kept, start-prepares, start-room}
+use Rattle.sweep_start.proofs.StartModel.{start-kept, start-prepares}
 use Rattle.sweep_state.proofs.LongLaws.{kept-put, lengths-then, merged-long, normalised-long}
-use Rattle.sweep_state.specs.code.Arrays.{Arrays, arrays}
-use Rattle.sweep_state.specs.code.Meet.{Workspace, handed_in, held_of, with_held, workspace}
+use Rattle.sweep_state.specs.code.Arrays.{arrays}
+use Rattle.sweep_state.specs.code.Meet.{handed_in, held_of, with_held, workspace}
 use lib.ListN.{length-set}
 use mathlib.Core.Path.{◌∙◌, refl}
 use Rattle.sweep_start.proofs.start.prepare.Goals as goal
 
-pub normalise-requires-clause-graph : goal.normalise-requires-clause-graph
-normalise-requires-clause-graph c = rw (c.begin.ensures, c.empty.ensures.left) (start-graph c.requires)
-
 pub takes-requires-clause-graph : goal.takes-requires-clause-graph
 takes-requires-clause-graph c = rw (c.normalise.ensures.left, c.begin.ensures, c.empty.ensures.left) (start-kept c.requires refl)
-
-pub takes-requires-clause-room : goal.takes-requires-clause-room
-takes-requires-clause-room c = rw (c.normalise.ensures.left, c.begin.ensures, c.empty.ensures.left) (start-room c.requires c.empty.new.s.rows.now)
 
 pub returns-clause-prepared : goal.returns-clause-prepared
 returns-clause-prepared c =

@@ -1,8 +1,7 @@
 -- What the first look sees decides; no loop.
 -- One law for each way, for all functions.
 use Rattle.std.proofs.lemmas.Result.{err_from_is_err_and}
-use Rattle.sweep_start.proofs.BeginModel.{going-nothing, prepared-giving, prepared_looks, start_gives, start-stops}
-use Rattle.sweep_state.proofs.LongLaws.{kept-then}
+use Rattle.sweep_start.proofs.BeginModel.{going-nothing, prepared_looks, start_gives, start-stops}
 use Rattle.sweep_state.specs.code.Sweep.{lent}
 use mathlib.Core.Path.{sym}
 use Rattle.sweep_start.proofs.start.start.Goals as goal
@@ -11,11 +10,6 @@ pub look-requires : goal.look-requires
 look-requires c =
     let kept = c.prepare.ensures.kept in
     rw kept.task (prepared_looks c.args.s.now.task (lent c.args.s.now) (lent c.prepare.new.s) c.prepare.ensures.prepared c.requires)
-
-pub give_inputs-requires-clause-giving : goal.give_inputs-requires-clause-giving
-give_inputs-requires-clause-giving c =
-    let kept = c.prepare.ensures.kept in
-    rw kept.task (prepared-giving c.args.s.now.task (lent c.args.s.now) (lent c.prepare.new.s) c.prepare.ensures.prepared c.requires)
 
 pub returns-in_err-after_look-clause-started : goal.returns-in_err-after_look-clause-started
 returns-in_err-after_look-clause-started c =
@@ -31,6 +25,3 @@ returns-clause-started c =
     let e = going-nothing c.look.result c.prepare.new.s.used c.prepare.new.s.steps (sym c.in_ok-after_look.ensures) in
     start_gives c.args.s.now.task (lent c.args.s.now) (lent c.prepare.new.s) n.prepared (rw n.kept.task at c.look.ensures) e (lent c.give_inputs.new.s)
     c.give_inputs.new.s.used c.give_inputs.new.s.steps c.give_inputs.result (rw n.kept.task at c.give_inputs.ensures.given)
-
-pub returns-clause-kept : goal.returns-clause-kept
-returns-clause-kept c = kept-then c.prepare.ensures.kept c.give_inputs.ensures.kept

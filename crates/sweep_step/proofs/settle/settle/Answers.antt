@@ -1,13 +1,9 @@
 -- The size decides; no loop.
 -- One law for each way, in every setting of the product.
 use Rattle.sweep_step.proofs.SettleModel.{settle_asks, settle_back, settle-drops, settle-meets}
-use Prim.Native.Nat.{◌*◌}
-use Rattle.sweep_graph.specs.code.Stages.{with_stage}
 use Rattle.sweep_state.proofs.LongLaws.{kept-put, met-long}
-use Rattle.sweep_state.specs.code.Arrays.{arrays}
-use Rattle.sweep_state.specs.code.Meet.{met_workspace, workspace}
+use Rattle.sweep_state.specs.code.Meet.{met_workspace}
 use Rattle.sweep_state.specs.code.Sweep.{lent}
-use lib.ListN.{length-set, set}
 use mathlib.Core.Path.{refl}
 use Rattle.sweep_step.proofs.settle.settle.Goals as goal
 
@@ -32,24 +28,6 @@ pub returns-clause-settled : goal.returns-clause-settled
 returns-clause-settled c = λ x e.
     let m = c.measure-measured.ensures in
     rw (c.meet.ensures.left, m.same) (settle-meets e m.sized (rw m.same at c.if-s-measured.false) refl)
-
-pub returns-then-s-measured-clause-same : goal.returns-then-s-measured-clause-same
-returns-then-s-measured-clause-same c =
-    let m = c.measure-measured.ensures in
-    let s = c.args.s.now in
-    rw (c.drop_vertex.ensures.left, m.same) (
-      kept-put s s.look.now
-          (workspace s.pairs.now (arrays s.diagrams.now (with_stage s.stages.now c.args.v 4) c.drop_vertex.new.s.rows.now (set s.marks.now c.args.v 2)))
-          c.args.kept s.steps refl
-          (record {
-            pairs = refl;
-            diagrams = refl;
-            stages = length-set s.stages.now (2 * c.args.v) 4;
-            rows = rw m.same at c.drop_vertex.ensures.long;
-            marks = length-set s.marks.now c.args.v 2;
-          }),
-      refl,
-    )
 
 pub returns-clause-same : goal.returns-clause-same
 returns-clause-same c =

@@ -1,13 +1,9 @@
 use Rattle.std.proofs.lemmas.Result.{err_from_is_err_and}
-use Rattle.sweep_turn.proofs.GoModel.{pick_asks, turn-asks, turns-begin, turns-end, turns_fall, turns-go-on, turns_stop}
-use mathlib.Core.Path.{◌∙◌, sym}
+use Rattle.sweep_turn.proofs.GoModel.{turn-asks, turns-begin, turns-end, turns_fall, turns-go-on, turns_stop}
 use Rattle.sweep_turn.proofs.turn.go.Goals as goal
 
 pub loop-v-init : goal.loop-v-init
 loop-v-init c = turns-begin
-
-pub pick-requires : goal.pick-requires
-pick-requires c = pick_asks c.loop-v.invariant c.requires.rest
 
 pub open-requires-clause-opening : goal.open-requires-clause-opening
 open-requires-clause-opening c = turn-asks c.loop-v.invariant c.in-Some.is c.pick.ensures c.requires.rest

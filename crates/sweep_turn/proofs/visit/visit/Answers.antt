@@ -1,11 +1,8 @@
 -- Whether the vertex is ready decides; no loop.
 -- One law for each way, in every context.
 use Rattle.std.proofs.lemmas.Result.{err_from_is_err_and}
-use Rattle.sweep_turn.proofs.VisitModel.{ready-asked, visit-due, visit-passes, visit-seen, visit-short}
+use Rattle.sweep_turn.proofs.VisitModel.{visit-due, visit-passes, visit-seen, visit-short}
 use Rattle.sweep_turn.proofs.visit.visit.Goals as goal
-
-pub is_ready-requires : goal.is_ready-requires
-is_ready-requires c = ready-asked c.requires.scan.here c.requires.long.0
 
 pub multiply-requires-clause-due : goal.multiply-requires-clause-due
 multiply-requires-clause-due c = visit-due c.args.v c.args.s.now c.requires.long.0 c.is_ready.ensures c.if-is_ready.true c.requires.scan
