@@ -1,5 +1,5 @@
 // A circuit as it stands in a drawing file: gates upon inputs, outputs, and a constraint or none.
-ghost use Rattle.std.specs.Prelude.{◌%◌, ◌*◌, ◌+◌, ◌-◌, ◌/◌, ◌<◌, IsTrue, ◌↔◌, ◌≡◌};
+ghost use Rattle.std.specs.Prelude.{◌%◌, ◌*◌, ◌+◌, ◌-◌, ◌/◌, ◌<◌, IsTrue, ◌↔◌, ◌≡◌, ◌≢◌};
 
 use crate::random::Random;
 use std::alloc::{AllocError, Global};
@@ -26,7 +26,9 @@ impl Operation {
     }
 
     // Another operation; used twice it gives the third.
-    pub fn next(self) -> Operation {
+    pub fn next(self) -> Operation
+        ensures { result ≢ self }
+    {
         match self {
             Operation::And => Operation::Or,
             Operation::Or => Operation::Xor,
@@ -108,7 +110,9 @@ pub struct Circuit {
 }
 
 impl Circuit {
-    pub fn new(alloc: Global, inputs: u32) -> Circuit {
+    pub fn new(alloc: Global, inputs: u32) -> Circuit
+        ensures { result.inputs ≡ inputs }
+    {
         Circuit {
             inputs,
             gates: Vec::new(alloc),

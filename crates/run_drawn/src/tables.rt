@@ -1,5 +1,7 @@
 // Truth tables: a bit for each of 1,024 settings, setting 0 first, input 1 the leading digit. With fewer than ten inputs the table repeats, so
 // that a first difference is always among the settings that there are.
+ghost use Rattle.std.specs.Prelude.{◌<◌};
+
 use crate::circuit::{Circuit, Operation, Reference};
 use std::alloc::{AllocError, Global};
 use std::array;
@@ -34,7 +36,9 @@ impl Bits {
     }
 
     // The value on a setting.
-    pub fn value(&self, setting: usize) -> u8 {
+    pub fn value(&self, setting: usize) -> u8
+        ensures { result < 2 }
+    {
         (self.0[setting / 64 % WORDS] >> (setting % 64) & 1) as u8
     }
 
