@@ -56,6 +56,14 @@ open_word_lem w =
     (λ d. refl) (λ d. refl) (λ d. absurd (d refl)) (λ d. refl) (λ d. refl)
     (λ w h d. ne_eqb w 3 (omega arith)) w
 
+-- A word other than waiting's waits where it is 3.
+pub waits-word : (w : ℕ) → (w ≡ 1 → ⊥) → eqb w 3 ≡ waits? (word_stage w)
+unfolding waits?
+waits-word w =
+    word-cases (λ w s. (w ≡ 1 → ⊥) → eqb w 3 ≡ waits? s)
+    (λ d. refl) (λ d. absurd (d refl)) (λ d. refl) (λ d. refl) (λ d. refl)
+    (λ w h d. ne_eqb w 3 (omega arith)) w
+
 -- The tests of the other stages.
 pub has_not : (s : declared.Stage) → (s ≡ code.Waiting → ⊥) → (s ≡ code.Opened → ⊥) → (s ≡ code.Again → ⊥) → false ≡ has? (staged s)
 unfolding has?

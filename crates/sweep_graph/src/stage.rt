@@ -96,6 +96,24 @@ pub fn stage_at(stages: &[u32], v: u32) -> Stage
     Stage::from(stages[2 * v as usize])
 }
 
+// Whether a vertex waits. Its word is compared, with no `Stage` made of it: this is asked of every vertex for each that opens.
+pub fn waits_at(stages: &[u32], v: u32) -> bool
+    requires { 2 * v < length stages.now }
+    ensures { result ≡ waits? (stage_in stages.now v) }
+{
+    let word = stages[2 * v as usize];
+    word == u32::from(Stage::Waiting) || word == u32::from(Stage::Again)
+}
+
+// Whether a vertex is open, by its word as well.
+pub fn is_open_at(stages: &[u32], v: u32) -> bool
+    requires { 2 * v < length stages.now }
+    ensures { result ≡ open? (stage_in stages.now v) }
+{
+    let word = stages[2 * v as usize];
+    word == u32::from(Stage::Opened) || word == u32::from(Stage::Again)
+}
+
 // Any word may be written: a `Stage` would ask more of callers.
 pub fn set_stage(stages: &mut [u32], v: u32, stage: u32)
     requires { 2 * v < length stages.old }

@@ -1,3 +1,2 @@
 pub mod BeginLaws
-pub mod PassLaws
 pub mod PickLaws

@@ -6,6 +6,7 @@ ghost use Rattle.bdd.specs.code.Owners.{with_owner};
 ghost use Rattle.bdd.specs.code.Rows.{RADIX};
 ghost use Rattle.sweep_graph.specs.code.Stages.{stage_in, stage_word, staged, with_stage};
 ghost use Rattle.sweep_model.specs.Normalise.{resolve};
+ghost use Rattle.sweep_model.specs.State.{open?, waits?};
 ghost use Rattle.sweep_state.specs.code.Look.{reference_of};
 ghost use Rattle.sweep_state.specs.code.Marks.{mark_byte};
 ghost use Rattle.sweep_state.specs.code.Sweep.{put_diagrams, put_marks, put_pairs, put_rows, put_stages};
@@ -16,7 +17,7 @@ use crate::task::Task;
 use aig::literal::Literal;
 use sweep_graph::reference::{own_row, reference_of};
 use sweep_graph::resolve::resolve;
-use sweep_graph::stage::{Stage, set_stage, stage_at};
+use sweep_graph::stage::{Stage, is_open_at, set_stage, stage_at, waits_at};
 use words::{first_word, second_word, set_words};
 
 // The slices that the caller lends, what is asked, the rows used and the steps taken. The pairs, the look-up, the diagrams (reference and
@@ -69,6 +70,20 @@ impl<'a> Sweep<'a> {
         ensures { staged result ≡ stage_in self.now.stages.now v }
     {
         stage_at(&self.stages[..], v)
+    }
+
+    pub fn waits(&self, v: u32) -> bool
+        requires { 2 * v < length self.now.stages.now }
+        ensures { result ≡ waits? (stage_in self.now.stages.now v) }
+    {
+        waits_at(&self.stages[..], v)
+    }
+
+    pub fn is_open(&self, v: u32) -> bool
+        requires { 2 * v < length self.now.stages.now }
+        ensures { result ≡ open? (stage_in self.now.stages.now v) }
+    {
+        is_open_at(&self.stages[..], v)
     }
 
     pub fn set_stage(&mut self, v: u32, stage: Stage)

@@ -14,7 +14,7 @@ fn operand_is_open(s: &Sweep<'_>, r: Literal) -> bool
     requires { 2 * vertex_of r.0 < length s.now.stages.now }
     ensures { result ≡ open_word s.now.stages.now (vertex_of r.0) }
 {
-    s.stage(r.vertex()).is_open()
+    s.is_open(r.vertex())
 }
 
 // Whether vertex v is bare, and both its operands are open.

@@ -1,5 +1,5 @@
 -- "4. The waiting vertex of least size opens, lowest number on a tie.": by the words of stages and sizes. (RULES 6.4)
-use Rattle.std.specs.Prelude.{suc, zero, ℕ, leb, cond, None, Option, Some, List}
+use Rattle.std.specs.Prelude.{◌*◌, ◌+◌, ◌<◌, suc, zero, ℕ, leb, length, cond, None, Option, Some, List, ◌≡◌}
 use Rattle.aig.specs.Lookup.{first_word, second_word}
 use Rattle.sweep_graph.specs.code.Stages.{word_stage}
 use Rattle.sweep_model.specs.State.{waits?}
@@ -17,3 +17,7 @@ pick_here stages diagrams v later = cond (waits? (word_stage (first_word stages 
 unfoldable pub least_from : List ℕ → List ℕ → ℕ → ℕ → Option ℕ
 least_from stages diagrams v zero = None
 least_from stages diagrams v (suc n) = pick_here stages diagrams v (least_from stages diagrams (suc v) n)
+
+-- A picked vertex has its words.
+abbrev pub Within : List ℕ → Option ℕ → Type 0
+Within diagrams later = (w : ℕ) → later ≡ Some w → 2 * w + 1 < length diagrams

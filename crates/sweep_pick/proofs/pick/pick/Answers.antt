@@ -1,18 +1,24 @@
-use Rattle.std.proofs.Common.{arith, rules, ◌∙◌}
-use Rattle.std.proofs.lemmas.Iterator.{YieldsList-from_range}
-use Rattle.std.proofs.lemmas.Iterator.Consumers.{YieldsList-from_filter}
-use Rattle.aig.specs.Lookup.{first_word}
-use Rattle.sweep_graph.specs.code.Stages.{word_stage}
-use Rattle.sweep_model.specs.State.{waits?}
-use Rattle.sweep_pick.proofs.PassLaws.{least-waiting, least_of_list}
-use borrow.Author.Tests.{tests}
+use Prim.Native.Nat.{◌-◌}
+use Rattle.sweep_pick.proofs.PickLaws.{least-is, least_more}
+use Rattle.sweep_pick.specs.code.Pick.{least_from}
+use mathlib.Core.Path.{◌∙◌, ◌≡◌, refl, sym}
+use native.Mathlib.Omega.{arith}
 use Rattle.sweep_pick.proofs.pick.pick.Goals as goal
 
-pub returns : goal.returns
-returns c =
+pub loop-v-init : goal.loop-v-init
+unfolding least_from
+loop-v-init c =
+    let none : c.args.s.now.task.count - c.args.s.now.task.count ≡ 0 = omega arith in
+    rw none refl
+
+-- What is picked later is one of the vertices from v on.
+pub pick_here-picked-requires-clause-later : goal.pick_here-picked-requires-clause-later
+pick_here-picked-requires-clause-later c w e =
     let s = c.args.s.now in
-    least_of_list s.diagrams.now _ _ (λ x k q h. search (rules, tests)) _ _ _ c.min_by_key.ensures.ran
-    (YieldsList-from_filter _ (λ v. waits? (word_stage (first_word s.stages.now v)))
-    (YieldsList-from_range 0 s.task.count s.task.count c.filter.ensures.source (omega arith)) c.filter.ensures.closure
-    (λ x b q h. search (rules, tests)))
-    ∙ least-waiting s.diagrams.now s.stages.now s.task.count 0
+    omega (arith, (least-is s.stages.now s.diagrams.now (s.task.count - c.loop-v.v) c.loop-v.v w (sym c.loop-v.invariant ∙ e)).within)
+
+pub loop-v-preserved : goal.loop-v-preserved
+loop-v-preserved c =
+    let s = c.args.s.now in
+    least_more s.stages.now s.diagrams.now s.task.count c.loop-v.v c.loop-v-test.true c.loop-v.auto.v c.loop-v.invariant
+    c.pick_here-picked.ensures
