@@ -2,7 +2,7 @@
 ghost use Rattle.netlist_model.specs.Records.{gate_in, header_in, laid_out, line_of, name_line, name?, name_in, operation_of, record_of};
 ghost use Rattle.text.specs.Numerals.{numeral_of};
 ghost use Rattle.text.specs.Split.{split_at};
-ghost use Rattle.std.specs.Prelude.{get_or, Some, [], ◌≡◌};
+ghost use Rattle.std.specs.Prelude.{get_or, length, Some, [], ◌≡◌};
 
 use netlist_model::{Operation, Record};
 
@@ -13,19 +13,20 @@ const TAB: u8 = b'\t';
 pub fn read_record(line: &[u8]) -> Option<Record>
     ensures { result ≡ record_of line.now }
 {
-    if is_laid_out(line, 5, b"N") {
+    let fields = text::part_count(line, TAB);
+    if is_laid_out(line, fields, 5, b"N") {
         return read_header(line);
     }
-    if is_laid_out(line, 2, b"I") {
+    if is_laid_out(line, fields, 2, b"I") {
         return is_name(text::part(line, 1, TAB)).then_some(Record::Name);
     }
-    if is_laid_out(line, 4, b"G") {
+    if is_laid_out(line, fields, 4, b"G") {
         return read_gate(line);
     }
-    if is_laid_out(line, 2, b"O") {
+    if is_laid_out(line, fields, 2, b"O") {
         return number(line, 1).map(Record::Output);
     }
-    if is_laid_out(line, 2, b"C") {
+    if is_laid_out(line, fields, 2, b"C") {
         return number(line, 1).map(Record::Constraint);
     }
     None
@@ -56,11 +57,12 @@ pub fn operation_of(field: &[u8]) -> Option<Operation>
     None
 }
 
-// Whether a line has `count` fields and the first is `letter`.
-fn is_laid_out(line: &[u8], count: usize, letter: &[u8]) -> bool
+// Whether the number of a line's fields, which is `fields`, is `count`, and the first of them is `letter`.
+fn is_laid_out(line: &[u8], fields: usize, count: usize, letter: &[u8]) -> bool
+    requires { fields ≡ length (split_at 9 line.now) }
     ensures { result ≡ laid_out count letter.now (split_at 9 line.now) }
 {
-    text::part_count(line, TAB) == count && text::same(text::part(line, 0, TAB), letter)
+    fields == count && text::same(text::part(line, 0, TAB), letter)
 }
 
 // The number in field `k`, if it is one.

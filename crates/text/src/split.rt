@@ -13,7 +13,13 @@ pub fn until(s: &[u8], at: usize, stop: u8) -> &[u8]
 pub fn part_count(s: &[u8], stop: u8) -> usize
     ensures { result ≡ length (split_at stop s.now) }
 {
-    1 + s.iter().filter(|b| **b == stop).count()
+    let mut count = 1;
+    for b in s {
+        if *b == stop {
+            count += 1;
+        }
+    }
+    count
 }
 
 // Part `k` of `s`, counted from 0; no bytes where there are no more than `k`: each caller would make an `Option` that.
