@@ -1,8 +1,14 @@
 -- The line that the program prints of a reply.
-use Rattle.std.specs.Prelude.{◌+◌, ℕ, length, List, [], Some, None}
-use Rattle.compare_model.specs.Said.{Said}
+use Rattle.std.specs.Prelude.{◌+◌, ℕ, length, List, [], Result, Ok, Err, Some, None}
+use Rattle.compare_model.specs.Said.{Said, replied}
 use Rattle.report_format.specs.Report.{LINE_ROOM, refused_line, reply_line}
 use Rattle.report_format.specs.declared.Word.TheVariants as word
+use Rattle.sweep_model.specs.declared.Reply.{Reply}
+
+-- The reply, or the number of a refusal. (RULES 7.3, 8.1)
+abbrev pub said_or_number : Result Reply ℕ → Said
+said_or_number (Ok reply) = replied reply
+said_or_number (Err number) = Said.refused number
 
 -- "A Different writes one byte an input .. to the front of the lent setting slice": the other replies have no setting. (RULES 7.2)
 abbrev pub setting_for : Said → List ℕ → List ℕ

@@ -1,32 +1,30 @@
 // The line of a reply, as bytes.
 #![tactic(auto)]
 
-ghost use Rattle.compare_model.specs.Said.{said_of};
 ghost use Rattle.reply_line.specs.code.Cause.{cause_vertex, cause_word};
-ghost use Rattle.reply_line.specs.Line.{line_for, room_for};
+ghost use Rattle.reply_line.specs.Line.{line_for, room_for, said_or_number};
 ghost use Rattle.report_format.specs.Report.{Printed};
 ghost use Rattle.std.specs.Prelude.{◌≡◌};
 
-use refusal::Refusal;
 use report_format::Word;
 use sweep_model::{Cause, Reply};
 
 // Puts the line of a reply on an output at the front of `out` and gives back its length. The edition is that of the pair of files, and the
-// setting that of a Different. The edition is a number, as in `report`.
+// setting that of a Different. The edition is a number, as in `report`, and so is a refusal: any number may be printed.
 pub fn write_line(
     out: &mut [u8],
     edition: u32,
     output: u32,
-    reply: Result<Reply, Refusal>,
+    reply: Result<Reply, u32>,
     setting: &[u8],
 ) -> usize
-    ensures { Printed (room_for (said_of reply) setting.now) (line_for edition output (said_of reply) setting.now) out.old out.new result }
+    ensures { Printed (room_for (said_or_number reply) setting.now) (line_for edition output (said_or_number reply) setting.now) out.old out.new result }
 {
     let (word, setting, vertex, counts) = match reply {
         Ok(Reply::Equal(counts)) => (Word::Equal, &b""[..], None, counts),
         Ok(Reply::Different(counts)) => (Word::Different, setting, None, counts),
         Ok(Reply::Undecided(cause, counts)) => (word_of(cause), &b""[..], vertex_of(cause), counts),
-        Err(refusal) => return report::write_refused(out, u32::from(refusal), 0, 0),
+        Err(number) => return report::write_refused(out, number, 0, 0),
     };
     report::write_reply(
         out,

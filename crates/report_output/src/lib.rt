@@ -3,14 +3,18 @@
 
 ghost use Rattle.std.specs.Prelude.{length, take, ◌≡◌, ◌≤◌};
 ghost use Rattle.compare_model.specs.Lent.{SameSlices};
+ghost use Rattle.compare_model.specs.Said.{said_of};
 ghost use Rattle.comparer.specs.Lent.{holding};
+ghost use Rattle.reply_line.specs.Line.{said_or_number};
 ghost use Rattle.report_fields.specs.code.Line.{Added, HasRoom};
 ghost use Rattle.report_model.specs.Report.{comparison_line, reply_room};
 ghost use Rattle.report_output.specs.code.Slices.{LeftToNext, Ready, asked};
 
 use compare_model::{Lent, Limits};
+use refusal::Refusal;
 use report_fields::Line;
 use report_model::{ROW_LIMIT, SIZE_LIMIT, STEP_LIMIT};
+use sweep_model::Reply;
 use table::Table;
 
 // Compares an output, and adds its line to the report.
@@ -35,7 +39,23 @@ pub fn report_output(
     let view = Table { words: &table[..] };
     let inputs = view.inputs() as usize;
     let reply = comparer::compare(table, output, limits, lent);
-    report_parts::put_line(report, edition, output, reply, digits(lent, inputs));
+    report_parts::put_line(
+        report,
+        edition,
+        output,
+        numbered(reply),
+        digits(lent, inputs),
+    );
+}
+
+// An answer with the number of its refusal.
+fn numbered(answer: Result<Reply, Refusal>) -> Result<Reply, u32>
+    ensures { said_or_number result ≡ said_of answer }
+{
+    match answer {
+        Ok(reply) => Ok(reply),
+        Err(refusal) => Err(u32::from(refusal)),
+    }
 }
 
 // The front of the setting: a byte for each input.

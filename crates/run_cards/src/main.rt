@@ -121,7 +121,7 @@ fn limits_of(card: &[u8]) -> Limits {
 fn is_line(line: &[u8], output: u32, reply: Result<Reply, Refusal>) -> bool {
     let mut came = [0; report_format::LINE_ROOM];
     let edition = u32::from(Edition::ByPlace);
-    let end = reply_line::write_line(&mut came, edition, output, reply, b"");
+    let end = reply_line::write_line(&mut came, edition, output, reply.map_err(u32::from), b"");
     line == &came[..end]
 }
 

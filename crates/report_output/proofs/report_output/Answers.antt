@@ -18,7 +18,7 @@ returns-clause-added c =
     let within = c.requires.ready.accepted.formed.inputs in
     let long = ap (λ (l : Lengths). l.setting) call.ensures.same.lengths in
     compared-added g call.result call.new.table call.new.lent.marks.now call.new.lent.setting.now call.ensures.compared.result a.edition within
-    (omega (arith, within, c.requires.ready.room, long)) (rw (c.digits.ensures, c.inputs-inputs.ensures) at c.put_line.ensures)
+    (omega (arith, within, c.requires.ready.room, long)) (rw (c.digits.ensures, c.inputs-inputs.ensures, c.numbered.ensures) at c.put_line.ensures)
 
 pub returns-clause-left_to_next : goal.returns-clause-left_to_next
 returns-clause-left_to_next c =
