@@ -5,7 +5,7 @@ use load::Edition;
 use run_card_file::{number, number_at, number_count};
 use std::alloc::{AllocError, Global};
 
-// The most newlines of a file: one more than the most bytes that a file may have.
+// The most bytes of a file of newlines or of a text: one more than a file may have.
 const MOST: usize = 65537;
 
 const MAX_GATES: u32 = 4096;
@@ -37,7 +37,7 @@ pub fn make(alloc: Global, text: &[u8], numbers: &[u8]) -> Result<Vec<u8>, Alloc
         return Ok(vec![in alloc; b'\n'; (number(numbers) as usize).min(MOST)]?);
     }
     let mut file = Vec::new(alloc);
-    file.extend_from_slice(text)?;
+    file.extend_from_slice(&text[..text.len().min(MOST)])?;
     Ok(file)
 }
 

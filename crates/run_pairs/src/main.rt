@@ -2,7 +2,7 @@
 // pair with each lent slice one element short.
 #![tactic(auto)]
 
-ghost use Rattle.std.specs.Prelude.{IfOk, ◌≤◌, length};
+ghost use Rattle.std.specs.Prelude.{◌≡◌, ◌≤◌, length, take};
 
 use compare_model::Lent;
 use report_model::{COMPARE_ROOM, COMPARE_VERTICES, REPORT_ROOM, ROWS_ROOM};
@@ -16,6 +16,9 @@ const SETTING_ROOM: usize = table::MAX_INPUTS as usize;
 
 // Room for the names.
 const NAMES_ROOM: usize = 4096;
+
+// Room for a folder's name and the name of a file in it.
+const PATH_ROOM: usize = 64;
 
 // The slices that the call is lent.
 #[derive(Clone, Copy, PartialEq, Eq)]
@@ -55,7 +58,7 @@ fn main(rt: HostRuntime) -> io::Result<()> {
 }
 
 // The report on each pair, in the order of the names. Each name ends with byte 10.
-fn report_all(rt: &(impl Files + Print + AllocGlobal), names: &[u8]) -> io::Result<()> {
+fn report_all(rt: &(impl Files + Print), names: &[u8]) -> io::Result<()> {
     for line in names.split_inclusive(|b| *b == b'\n') {
         if let Some(name) = line.strip_suffix(b"\n") {
             report_named(rt, name)?;
@@ -65,29 +68,27 @@ fn report_all(rt: &(impl Files + Print + AllocGlobal), names: &[u8]) -> io::Resu
 }
 
 // The files are read into arrays, whose lengths the check knows.
-fn report_named(rt: &(impl Files + Print + AllocGlobal), name: &[u8]) -> io::Result<()> {
+fn report_named(rt: &(impl Files + Print), name: &[u8]) -> io::Result<()> {
     let mut left = [0; FILE_ROOM];
     let mut right = [0; FILE_ROOM];
-    let left_end = read_named(rt, name, b"/left.tsv", &mut left)?;
-    let right_end = read_named(rt, name, b"/right.tsv", &mut right)?;
+    let left_end = read_named(rt, name, b"/left.tsv", &mut left);
+    let right_end = read_named(rt, name, b"/right.tsv", &mut right);
     rt.write_all(name)?;
     rt.write_all(b"\n")?;
     print_report(rt, &left[..left_end], &right[..right_end], None)
 }
 
-// Reads a file of a folder.
-fn read_named(
-    rt: &(impl Files + AllocGlobal),
-    folder: &[u8],
-    name: &[u8],
-    bytes: &mut [u8],
-) -> io::Result<usize>
-    ensures { IfOk result (λ end. end ≤ length bytes.new) }
+// Reads a file of a folder. A path that is longer than the room for it is cut.
+fn read_named(files: &impl Files, folder: &[u8], name: &[u8], bytes: &mut [u8]) -> usize
+    ensures in_bounds { result ≤ length bytes.new }
+    ensures front { result ≡ length (take result bytes.new) }
 {
-    let mut path = Vec::new(rt.alloc());
-    path.extend_from_slice(folder)?;
-    path.extend_from_slice(name)?;
-    Ok(files::read_file(rt, &path, bytes))
+    let mut path = [0; PATH_ROOM];
+    for (to, byte) in path.iter_mut().zip(folder.iter().chain(name)) {
+        *to = *byte;
+    }
+    let end = folder.len().saturating_add(name.len()).min(PATH_ROOM);
+    files::read_file(files, &path[..end], bytes)
 }
 
 // The report on the and/or pair, with one of the lent slices one element short.

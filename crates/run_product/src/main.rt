@@ -7,7 +7,7 @@ mod circuit;
 mod diagram;
 mod values;
 
-ghost use Rattle.std.specs.Prelude.{IfOk, ◌<◌, ◌^◌, ◌≤◌, length, ◌≡◌};
+ghost use Rattle.std.specs.Prelude.{◌<◌, ◌^◌, ◌≤◌, length, ◌≡◌};
 ghost use Rattle.bdd.specs.code.Store.{Store};
 
 use bdd::store::RowStore;
@@ -65,12 +65,11 @@ fn store_under<'a>(rows: &'a mut [u32], limit: usize, next: usize) -> RowStore<'
     bdd_unique::clear(rows, next)
 }
 
-// Runs the circuit of a card under its limit on rows, which is the result. Under the limit of the card before it uses the rows again that were
-// given back.
-fn run_card(rt: &impl Print, card: &[u8], rows: &mut [u32], limit: usize) -> io::Result<usize>
-    requires store { Store rows.old limit 0 }
+// Runs the circuit of a card under its limit on rows. Under the limit of the card before it uses the rows again that were given back.
+fn run_card(rt: &impl Print, card: &[u8], rows: &mut [u32], limit: &mut usize) -> io::Result<()>
+    requires store { Store rows.old limit.old 0 }
     requires room { 4096 ≡ length rows.old }
-    ensures { IfOk result (λ next. Store rows.new next 0) }
+    ensures { Store rows.new limit.new 0 }
 {
     let next = number_in(card, 1, MAX_ROWS);
     let mut steps = Steps {
@@ -80,7 +79,8 @@ fn run_card(rt: &impl Print, card: &[u8], rows: &mut [u32], limit: usize) -> io:
     let inputs = number_in(card, 3, MAX_INPUTS);
     let settings = number_in(card, 4, MAX_SETTINGS);
     let circuit = circuit::read(inputs, field(card, 6));
-    let mut store = store_under(rows, limit, next);
+    let mut store = store_under(rows, *limit, next);
+    *limit = next;
     let mut references = [0; VERTICES];
     input_rows(&mut store, &mut references, inputs);
     let turn = ands(&mut store, &mut references, &circuit, &mut steps);
@@ -91,8 +91,7 @@ fn run_card(rt: &impl Print, card: &[u8], rows: &mut [u32], limit: usize) -> io:
     rt.write_all(field(card, 0))?;
     print!(rt; ": size {size}, rows {rows} of {next}")?;
     print!(rt; ", steps {} of {}", steps.taken, steps.most)?;
-    verdict(rt, turn.short, wrong)?;
-    Ok(next)
+    verdict(rt, turn.short, wrong)
 }
 
 // Runs the cards one after the other. The rows are an array, whose length the check knows.
@@ -102,7 +101,7 @@ fn main(rt: HostRuntime) -> io::Result<()> {
     bdd_unique::clear(&mut rows, MAX_ROWS);
     let mut limit = MAX_ROWS;
     for card in bytes.split(|b| *b == CARD_STOP) {
-        limit = run_card(&rt, card, &mut rows, limit)?;
+        run_card(&rt, card, &mut rows, &mut limit)?;
     }
     Ok(())
 }

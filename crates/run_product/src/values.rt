@@ -24,17 +24,15 @@ fn set_inputs(values: &mut [bool; VERTICES], inputs: usize, setting: usize)
     }
 }
 
-// The values of the inputs, then of the ANDs up to n, in an array, whose length the check knows.
-fn simulate(circuit: &Circuit, n: usize, setting: usize) -> [bool; VERTICES]
+// The values of the inputs, then of the ANDs up to n.
+fn simulate(values: &mut [bool; VERTICES], circuit: &Circuit, n: usize, setting: usize)
     requires { n ≤ 128 }
 {
-    let mut values = [false; VERTICES];
-    set_inputs(&mut values, circuit.inputs, setting);
+    set_inputs(values, circuit.inputs, setting);
     for v in circuit.inputs + 1..n {
         let (p, q) = circuit.operands[v];
-        values[v] = literal(&values, p) && literal(&values, q);
+        values[v] = literal(values, p) && literal(values, q);
     }
-    values
 }
 
 // The value of a reference: each digit picks a cofactor.
@@ -68,7 +66,7 @@ fn differences(
         .count()
 }
 
-// The same on all settings.
+// The same on all settings. The values stay from one setting to the next, so an operand that is not below its AND has the value of the setting before.
 pub fn mismatches(
     store: &RowStore<'_>,
     references: &References,
@@ -79,10 +77,11 @@ pub fn mismatches(
     requires held { Held store.now.rows.now references.now store.now.used circuit.now.inputs }
     requires few { (settings ≤ 1024) × (n ≤ 128) }
 {
-    (0..settings)
-        .map(|setting| {
-            let values = simulate(circuit, n, setting);
-            differences(store, circuit.inputs, references, &values, n, setting)
-        })
-        .sum()
+    let mut values = [false; VERTICES];
+    let mut wrong = 0;
+    for setting in 0..settings {
+        simulate(&mut values, circuit, n, setting);
+        wrong += differences(store, circuit.inputs, references, &values, n, setting);
+    }
+    wrong
 }
