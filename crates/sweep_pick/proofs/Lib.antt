@@ -1,2 +1,3 @@
 pub mod BeginLaws
+pub mod PassLaws
 pub mod PickLaws
